@@ -1,0 +1,186 @@
+ghost use Rattle.std.specs.Prelude.{◌≡◌, ◌↔◌, IsTrue, IfOk};
+ghost use Rattle.rdf_model.specs.Graph.{term_cmp};
+ghost use Rattle.rdf_term.specs.Seen.{kind_of, term_of, lent_kind, lent_term};
+
+use std::alloc::{AllocError, Global};
+use std::cmp::Ordering;
+use tn_io::Text;
+use trie_depth::Memory;
+
+/// What a literal has beside its lexical form.
+#[derive(Clone, Debug, PartialEq, Eq, PartialOrd, Ord, Drop)]
+pub enum Kind {
+    Typed(Text),
+    Tagged(Text),
+}
+
+#[derive(Clone, Debug, PartialEq, Eq, PartialOrd, Ord, Drop)]
+pub enum Term {
+    Iri(Text),
+    Blank(Text),
+    Literal(Text, Kind),
+}
+
+#[derive(Clone, Copy, Debug, PartialEq, Eq, PartialOrd, Ord)]
+pub enum KindRef<'a> {
+    Typed(&'a str),
+    Tagged(&'a str),
+}
+
+#[derive(Clone, Copy, Debug, PartialEq, Eq, PartialOrd, Ord)]
+pub enum TermRef<'a> {
+    Iri(&'a str),
+    Blank(&'a str),
+    Literal(&'a str, KindRef<'a>),
+}
+
+#[derive(Debug, Drop)]
+pub struct Triple {
+    pub s: Term,
+    pub p: Term,
+    pub o: Term,
+}
+
+impl<'a> KindRef<'a> {
+    pub fn own(self, alloc: Global) -> Result<Kind, Memory>
+        ensures { IfOk result (λ k. kind_of k ≡ lent_kind self.entry) }
+    {
+        match self {
+            KindRef::Typed(datatype) => Ok(Kind::Typed(Text::of(alloc, datatype)?)),
+            KindRef::Tagged(tag) => Ok(Kind::Tagged(Text::of(alloc, tag)?)),
+        }
+    }
+}
+
+impl<'a> TermRef<'a> {
+    pub fn own(self, alloc: Global) -> Result<Term, Memory>
+        ensures { IfOk result (λ t. term_of t ≡ lent_term self.entry) }
+    {
+        match self {
+            TermRef::Iri(text) => Ok(Term::Iri(Text::of(alloc, text)?)),
+            TermRef::Blank(label) => Ok(Term::Blank(Text::of(alloc, label)?)),
+            TermRef::Literal(form, kind) => {
+                let form = Text::of(alloc, form)?;
+                Ok(Term::Literal(form, kind.own(alloc)?))
+            }
+        }
+    }
+}
+
+impl Kind {
+    pub fn lent(&self) -> KindRef<'_>
+        ensures { lent_kind result ≡ kind_of self.now }
+    {
+        match self {
+            Kind::Typed(datatype) => KindRef::Typed(datatype.as_str()),
+            Kind::Tagged(tag) => KindRef::Tagged(tag.as_str()),
+        }
+    }
+}
+
+impl Term {
+    pub fn lent(&self) -> TermRef<'_>
+        ensures { lent_term result ≡ term_of self.now }
+    {
+        match self {
+            Term::Iri(text) => TermRef::Iri(text.as_str()),
+            Term::Blank(label) => TermRef::Blank(label.as_str()),
+            Term::Literal(form, kind) => TermRef::Literal(form.as_str(), kind.lent()),
+        }
+    }
+}
+
+/// Whether two lent terms are one.
+pub fn is_same_ref(a: TermRef<'_>, b: TermRef<'_>) -> bool
+    ensures { IsTrue result ↔ (lent_term a.entry ≡ lent_term b.entry) }
+{
+    a == b
+}
+
+/// Whether two terms are one.
+pub fn is_same(a: &Term, b: &Term) -> bool
+    ensures { IsTrue result ↔ (a.now ≡ b.now) }
+{
+    a == b
+}
+
+/// The order of two terms.
+pub fn order_of(a: &Term, b: &Term) -> Ordering
+    ensures { result ≡ term_cmp (term_of a.now) (term_of b.now) }
+{
+    a.cmp(b)
+}
+
+impl Clone for Triple {
+    ghost use Rattle.std.specs.Prelude.{◌≡◌};
+
+    ghost is_clone = { λ triple copy. copy ≡ triple };
+
+    fn clone(&self) -> Result<Triple, AllocError> {
+        Ok(Triple {
+            s: self.s.clone()?,
+            p: self.p.clone()?,
+            o: self.o.clone()?,
+        })
+    }
+}
+
+impl PartialEq for Triple {
+    ghost use Rattle.std.specs.Ordering.{eq_by_cmp, on};
+    ghost use Rattle.std.specs.Cmp.{partial_equiv_from_equiv, eq_by_cmp_equiv, on_total};
+    ghost use Rattle.rdf_model.specs.Graph.{triple_cmp, triples_total};
+    ghost use Rattle.rdf_term.specs.Seen.{triple_of};
+
+    ghost eq = { eq_by_cmp (on triple_of triple_cmp) };
+
+    ghost laws = { partial_equiv_from_equiv (eq_by_cmp_equiv (on_total triple_of triples_total)) };
+
+    fn eq(&self, other: &Self) -> bool {
+        self.cmp(other) == Ordering::Equal
+    }
+}
+
+impl Eq for Triple {
+    ghost use Rattle.std.specs.Cmp.{eq_by_cmp_equiv, on_total};
+    ghost use Rattle.rdf_model.specs.Graph.{triples_total};
+    ghost use Rattle.rdf_term.specs.Seen.{triple_of};
+
+    ghost laws = { eq_by_cmp_equiv (on_total triple_of triples_total) };
+}
+
+impl PartialOrd for Triple {
+    ghost use Rattle.std.specs.Ordering.{on, as_partial_cmp};
+    ghost use Rattle.std.specs.Cmp.{partial_order_from_total, on_total};
+    ghost use Rattle.rdf_model.specs.Graph.{triple_cmp, triples_total};
+    ghost use Rattle.rdf_term.specs.Seen.{triple_of};
+
+    ghost partial_cmp = { as_partial_cmp (on triple_of triple_cmp) };
+
+    ghost laws = { partial_order_from_total (on_total triple_of triples_total) };
+
+    fn partial_cmp(&self, other: &Self) -> Option<Ordering> {
+        Some(self.cmp(other))
+    }
+}
+
+impl Ord for Triple {
+    ghost use Rattle.std.specs.Prelude.{refl};
+    ghost use Rattle.std.specs.Ordering.{on};
+    ghost use Rattle.std.specs.Cmp.{on_total};
+    ghost use Rattle.rdf_model.specs.Graph.{triple_cmp, triples_total};
+    ghost use Rattle.rdf_term.specs.Seen.{triple_of};
+
+    ghost cmp = { on triple_of triple_cmp };
+
+    ghost total = { on_total triple_of triples_total };
+
+    ghost matches_partial_cmp = { λ x y. refl };
+
+    ghost matches_eq = { λ x y. refl };
+
+    fn cmp(&self, other: &Self) -> Ordering {
+        order_of(&self.s, &other.s)
+            .then(order_of(&self.p, &other.p))
+            .then(order_of(&self.o, &other.o))
+    }
+}

@@ -1,0 +1,2 @@
+//! Definitions alone: the lines of a text.
+#![tactic(auto)]

@@ -1,15 +1,20 @@
 -- The set of the triples that sorted keys stand for.
-use Rattle.std.proofs.Common.{◌≡◌, ◌∙◌, ℕ, ◌+◌, Bool, true, false, cond, ◌||◌, not, List, [], ◌∷◌, ◌++◌, length, map, add-one, refl, sym, ap, subst}
+use Rattle.std.proofs.Common.{◌≡◌, ◌∙◌, ℕ, ◌+◌, Bool, true, false, cond, ◌||◌, ◌&&◌, not, List, [], ◌∷◌, ◌++◌, length, map, add-one, refl, sym, ap, subst}
 use Rattle.std.specs.declared.cmp.Ordering.{Ordering}
 use Rattle.std.specs.declared.cmp.Ordering.TheVariants.{Less, Equal, Greater}
 use Rattle.std.specs.Ordering.{eq_by_cmp, is_eq, on, match_ordering}
+use Rattle.std.specs.Cmp.{eq_by_cmp_equiv}
 use Rattle.std.specs.List.{list_any, AllByRecursion, AllZip}
 use Rattle.std.specs.List.Sorted.{IsStrictlySortedBy}
 use Rattle.std.specs.BTreeSet.{insert_key}
 use Rattle.std.specs.FinSet as set
 use Rattle.std.proofs.lemmas.Map.Keys.{sorted_head}
 use Rattle.rdf_term.specs.declared.term.Triple.{Triple}
-use Rattle.rdf_term.specs.Seen.{triple_of}
+use Rattle.rdf_term.specs.declared.term.Term.{Term}
+use Rattle.rdf_term.specs.declared.term.Term.TheVariants as term
+use Rattle.rdf_term.specs.declared.term.Kind.{Kind}
+use Rattle.rdf_term.specs.declared.term.Kind.TheVariants as kind
+use Rattle.rdf_term.specs.Seen.{kind_of, term_of, triple_of}
 use Rattle.rdf_model.specs.Terms as model
 use Rattle.rdf_model.specs.Graph.{Graph, triple_cmp, triples_total, exact_triples, with_all}
 
@@ -85,3 +90,43 @@ same_clones [] [] z = refl
 same_clones [] (m ∷ ms) z = absurd z
 same_clones (k ∷ ks) [] z = absurd z
 same_clones (k ∷ ks) (m ∷ ms) z = ap (λ x. x ∷ ms) z.0 ∙ ap (λ xs. k ∷ xs) (same_clones ks ms z.1)
+
+abbrev kind_back : model.Kind → Kind
+kind_back (model.Typed t) = kind.Typed t
+kind_back (model.Tagged t) = kind.Tagged t
+
+abbrev term_back : model.Term → Term
+term_back (model.Iri t) = term.Iri t
+term_back (model.Blank t) = term.Blank t
+term_back (model.Literal t k) = term.Literal t (kind_back k)
+
+abbrev triple_back : model.Triple → Triple
+triple_back t = record { s = term_back t.s; p = term_back t.p; o = term_back t.o }
+
+same_kind : (k : model.Kind) → kind_of (kind_back k) ≡ k
+same_kind (model.Typed t) = refl
+same_kind (model.Tagged t) = refl
+
+same_term : (t : model.Term) → term_of (term_back t) ≡ t
+same_term (model.Iri t) = refl
+same_term (model.Blank t) = refl
+same_term (model.Literal t k) = ap (model.Literal t) (same_kind k)
+
+same_triple : (t : model.Triple) → triple_of (triple_back t) ≡ t
+same_triple t i = record { s = same_term t.s i; p = same_term t.p i; o = same_term t.o i }
+
+not_at : (a b c d : Bool) → a ≡ b → cond a false c ≡ (not b && c)
+not_at true true c d e = refl
+not_at false false c d e = refl
+not_at true false c d e = absurd (let t : ⊥ = cc in t)
+not_at false true c d e = absurd (let t : ⊥ = cc in t)
+
+-- keys that have what others have but one make a graph without that one
+pub graph_removed : (k : Triple) (ks ms : List Triple)
+    → ((q : Triple) → list_any (λ m. is_eq (order q m)) ms ≡ cond (is_eq (order k q)) false (list_any (λ m. is_eq (order q m)) ks))
+    → graph_of ms ≡ set.remove (graph_of ks) (triple_of k)
+graph_removed k ks ms h = set.same_set triples_total exact_triples _ _ (λ q.
+    ap (set.contains (graph_of ms)) (sym (same_triple q)) ∙ has_key (triple_back q) ms ∙ h (triple_back q)
+    ∙ not_at _ (eq_by_cmp triple_cmp q (triple_of k)) _ true ((eq_by_cmp_equiv triples_total).symm (triple_of k) (triple_of (triple_back q)) ∙ ap (λ (t : model.Triple). eq_by_cmp triple_cmp t (triple_of k)) (same_triple q))
+    ∙ ap (λ b. not (eq_by_cmp triple_cmp q (triple_of k)) && b) (sym (has_key (triple_back q) ks) ∙ ap (set.contains (graph_of ks)) (same_triple q))
+    ∙ sym (set.contains-remove triples_total (graph_of ks) (triple_of k) q))

@@ -1,16 +1,23 @@
-//! A plain set of triples.
+//! A plain set of triples, which contracts see as a graph.
 #![tactic(auto)]
 
 ghost use Rattle.std.specs.Prelude.{◌≡◌, IfOk, OnOk, OnErr, not, map};
 ghost use Rattle.std.specs.FinSet as set;
 ghost use Rattle.rdf_term.specs.Seen.{triple_of};
-ghost use Rattle.rdf_model.specs.Graph.{with_all};
+ghost use Rattle.rdf_model.specs.Graph.{with_all, without_all, added, gone};
 
 use rdf_term::Triple;
 use std::alloc::Global;
 use std::collections::BTreeSet;
 use std::marker::Model;
 use trie_depth::Memory;
+
+/// How many triples a change added or took away, and how many there are now.
+#[derive(Clone, Copy, Debug, PartialEq, Eq)]
+pub struct Changed {
+    pub changed: u64,
+    pub now: u64,
+}
 
 /// A graph, kept as an ordered set of triples.
 #[derive(Drop)]
@@ -52,22 +59,58 @@ impl PlainStore {
         self.triples.len()
     }
 
-    pub fn add(&mut self, triple: Triple) -> Result<bool, Memory>
-        ensures ok { OnOk result (self.new ≡ set.insert self.old (triple_of triple)) }
-        ensures added { IfOk result (λ added. added ≡ not (set.contains self.old (triple_of triple))) }
+    /// Adds all triples of a batch, or none. On `Memory` the store is as before.
+    pub fn add_all(&mut self, batch: Vec<Triple>) -> Result<Changed, Memory>
+        ensures graph { OnOk result (self.new ≡ with_all self.old (map triple_of batch.items)) }
+        ensures changed { IfOk result (λ r. r.changed ≡ added self.old (map triple_of batch.items)) }
+        ensures now { IfOk result (λ r. r.now ≡ set.len self.new) }
         ensures err { OnErr result (self.new ≡ self.old) }
     {
-        Ok(self.triples.insert(triple)?)
+        let before = self.len();
+        let mut next = self.copy()?;
+        next.take_in(batch)?;
+        let now = next.len();
+        *self = next;
+        Ok(Changed {
+            changed: (now - before) as u64,
+            now: now as u64,
+        })
     }
 
-    /// Adds all triples of a batch, or none. On `Memory` the store is as before.
-    pub fn add_all(&mut self, batch: Vec<Triple>) -> Result<(), Memory>
-        ensures ok { OnOk result (self.new ≡ with_all self.old (map triple_of batch.items)) }
-        ensures err { OnErr result (self.new ≡ self.old) }
+    /// Takes all triples of a batch away.
+    pub fn remove_all(&mut self, batch: Vec<Triple>) -> Changed
+        ensures graph { self.new ≡ without_all self.old (map triple_of batch.items) }
+        ensures changed { result.changed ≡ gone self.old (map triple_of batch.items) }
+        ensures now { result.now ≡ set.len self.new }
     {
-        let mut next = self.copy()?;
-        next.take_all(batch)?;
-        *self = next;
+        let before = self.len();
+        self.take_out(batch);
+        let now = self.len();
+        Changed {
+            changed: (before - now) as u64,
+            now: now as u64,
+        }
+    }
+
+    // Takes the triples away one by one.
+    fn take_out(&mut self, batch: Vec<Triple>)
+        ensures { self.new ≡ without_all self.old (map triple_of batch.items) }
+    {
+        for triple in batch {
+            self.remove(&triple);
+        }
+    }
+
+    fn remove(&mut self, triple: &Triple)
+        ensures { self.new ≡ set.remove self.old (triple_of triple.now) }
+    {
+        self.triples.remove(triple);
+    }
+
+    fn add(&mut self, triple: Triple) -> Result<(), Memory>
+        ensures { OnOk result (self.new ≡ set.insert self.old (triple_of triple)) }
+    {
+        self.triples.insert(triple)?;
         Ok(())
     }
 
@@ -80,7 +123,7 @@ impl PlainStore {
     }
 
     // Adds the triples one by one.
-    fn take_all(&mut self, batch: Vec<Triple>) -> Result<(), Memory>
+    fn take_in(&mut self, batch: Vec<Triple>) -> Result<(), Memory>
         ensures { OnOk result (self.new ≡ with_all self.old (map triple_of batch.items)) }
     {
         for triple in batch {

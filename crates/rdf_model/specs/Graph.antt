@@ -88,3 +88,11 @@ with_all G B = set.union G (set.from_list B)
 -- how many triples of the list G lacks, each counted once
 abbrev pub added : Graph → List Triple → ℕ
 added G B = set.len (set.difference (set.from_list B) G)
+
+-- G without the triples of a list
+abbrev pub without_all : Graph → List Triple → Graph
+without_all G B = set.difference G (set.from_list B)
+
+-- how many triples of the list G has, each counted once
+abbrev pub gone : Graph → List Triple → ℕ
+gone G B = set.len (set.intersection (set.from_list B) G)

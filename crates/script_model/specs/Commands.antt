@@ -1,8 +1,10 @@
-use Rattle.std.specs.Prelude.{◌≡◌, ℕ, Bool, true, false, not, ◌||◌, List, [], ◌∷◌, ◌++◌, length, ◌==◌, if◌then◌else◌, Option, Some, None, codes, slice_index, reverse}
-use Rattle.std.specs.List.{list_any}
+-- The commands of the lines of a script (docs/SCRIPT.md, "Lines and commands").
+use Rattle.std.specs.Prelude.{◌≡◌, ℕ, Bool, true, false, not, ◌||◌, List, [], ◌∷◌, ◌++◌, length, ◌==◌, if◌then◌else◌, Option, Some, None, codes, reverse}
+use Rattle.std.specs.List.{filter}
 use Rattle.std.specs.Str.{bytes_eq}
 use Rattle.text_lines.specs.Lines.{Line}
 
+-- space and tab
 abbrev pub is_blank : ℕ → Bool
 is_blank b = b == 32 || b == 9
 
@@ -14,43 +16,75 @@ after_blanks (b ∷ bs) = if is_blank b then after_blanks bs else b ∷ bs
 abbrev pub trimmed : List ℕ → List ℕ
 trimmed l = reverse (after_blanks (reverse (after_blanks l)))
 
+-- nothing, or a comment
 abbrev pub is_note : List ℕ → Bool
 is_note [] = true
 is_note (b ∷ bs) = b == 35
 
--- an empty line and a comment
+-- a line outside a block that says nothing: blanks alone, or a comment. One that is too long isn't skipped.
 abbrev pub skipped : Line → Bool
 skipped None = false
 skipped (Some l) = is_note (trimmed l)
 
-abbrev pub is_line : List ℕ → Line → Bool
-is_line text None = false
-is_line text (Some l) = bytes_eq l text
+-- what a block of lines does
+pub data Change : Type 0 where
+  Inserts : Change
+  Deletes : Change
 
-abbrev pub is_trimmed_line : List ℕ → Line → Bool
-is_trimmed_line text None = false
-is_trimmed_line text (Some l) = bytes_eq (trimmed l) text
-
-abbrev pub begins : Line → Bool
-begins = is_trimmed_line (codes "INSERT")
-
-abbrev pub ends : Line → Bool
-ends = is_line (codes "GO")
-
+-- Bad: a line outside a block that is no command form. Unended: a block that the script ends in.
 pub data Command : Type 0 where
-  Insert : (block : List Line) → Command
+  Block : (change : Change) (lines : List Line) → Command
+  Dump : Command
   Bad : Command
   Unended : Command
 
--- outside: the commands of lines outside a block; inside body: those where a block has had the lines of body
+-- what a line outside a block is: the beginning of a block, or a whole command
+pub data Form : Type 0 where
+  Begins : (change : Change) → Form
+  Whole : (command : Command) → Form
+
+-- the form of a line without the blanks at its ends, or none
+abbrev pub form_of_text : List ℕ → Option Form
+form_of_text t =
+    if bytes_eq t (codes "INSERT") then Some (Begins Inserts) else
+    if bytes_eq t (codes "DELETE") then Some (Begins Deletes) else
+    if bytes_eq t (codes "DUMP") then Some (Whole Dump) else None
+
+abbrev pub form_of : Line → Option Form
+form_of None = None
+form_of (Some l) = form_of_text (trimmed l)
+
+-- the line that ends a block: the two bytes alone
+abbrev pub ends_block : Line → Bool
+ends_block None = false
+ends_block (Some l) = bytes_eq l (codes "GO")
+
+-- The commands from a line of this form on: `rest` are those of the lines after it outside a block,
+-- and `inside` those where it begins a block.
+abbrev pub from_form : Option Form → List Command → (Change → List Command) → List Command
+from_form None rest inside = Bad ∷ rest
+from_form (Some (Begins change)) rest inside = inside change
+from_form (Some (Whole command)) rest inside = command ∷ rest
+
+-- outside: the commands of lines outside a block; inside: those where a block has had the lines of body
 abbrev mutual
   pub outside : List Line → List Command
   outside [] = []
-  outside (l ∷ ls) = if skipped l then outside ls else (if begins l then inside [] ls else Bad ∷ outside ls)
+  outside (l ∷ ls) = if skipped l then outside ls else from_form (form_of l) (outside ls) (λ change. inside change [] ls)
 
-  pub inside : List Line → List Line → List Command
-  inside body [] = Unended ∷ []
-  inside body (l ∷ ls) = if ends l then Insert body ∷ outside ls else inside (body ++ l ∷ []) ls
+  pub inside : Change → List Line → List Line → List Command
+  inside change body [] = Unended ∷ []
+  inside change body (l ∷ ls) = if ends_block l then Block change body ∷ outside ls else inside change (body ++ l ∷ []) ls
 
-abbrev pub commands : List Line → List Command
-commands = outside
+abbrev pub commands_of : List Line → List Command
+commands_of = outside
+
+abbrev pub is_closed : Command → Bool
+is_closed (Block change lines) = true
+is_closed Dump = true
+is_closed Bad = true
+is_closed Unended = false
+
+-- the commands without a block that the lines end in
+abbrev pub closed_commands_of : List Line → List Command
+closed_commands_of ls = filter is_closed (commands_of ls)

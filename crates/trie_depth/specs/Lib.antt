@@ -1,0 +1,5 @@
+pub mod Tuples
+pub mod Masks
+pub mod Mixing
+pub mod MixLaws
+pub mod TupleLaws

@@ -1,1 +1,3 @@
+pub mod Characters
 pub mod Line
+pub mod Terminals

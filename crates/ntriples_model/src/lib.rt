@@ -1,2 +1,2 @@
-//! Definitions alone: the lines of RDF 1.1 N-Triples.
+//! Definitions alone: the lines of RDF 1.1 N-Triples (section 7).
 #![tactic(auto)]

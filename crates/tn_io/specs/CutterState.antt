@@ -1,20 +1,11 @@
--- The lines that are still to come, where some bytes of the next have come already.
-use Rattle.std.specs.Prelude.{◌≡◌, ℕ, ◌≤◌, Bool, true, false, ◌&&◌, ◌||◌, ◌⊎◌, List, [], ◌∷◌, ◌++◌, map, length, Option, Some, None, if◌then◌else◌}
-use Rattle.text_lines.specs.Lines.{Line, front, lines_after, line_of, longest}
+-- What a cutter has yet to tell of the lines of a text, when some bytes of the next line have come already.
+use Rattle.std.specs.Prelude.{ℕ, ◌≤◌, Bool, false, List, [], ◌∷◌, Option, Some, None, if◌then◌else◌}
+use Rattle.text_lines.specs.Lines.{Line, Cuts, Ended, Last, before, cuts_after, all_lines, whole_lines, longest}
 use Rattle.tn_io.specs.declared.cutter.Cut.{Cut}
 use Rattle.tn_io.specs.declared.cutter.Cut.TheVariants.{Whole, TooLong}
 
--- bytes put before the first of the lines
-abbrev pub before : List ℕ → List (List ℕ) → List (List ℕ)
-before [] ls = ls
-before (b ∷ bs) ls = front b (before bs ls)
-
-abbrev pub without_first : List (List ℕ) → List (List ℕ)
-without_first [] = []
-without_first (l ∷ ls) = ls
-
--- line: the bytes of the next line so far, or of the line that ended; cr: the byte before was a CR;
--- told: the line was told already, as too long; ended: the line in hand has ended
+-- line: the bytes of the next line so far, or the line that ended last; cr: the byte before was a CR;
+-- told: the next line was told already, as too long; ended: the line in hand has ended
 pub record State : Type 0 where
   pub line : List ℕ
   pub cr : Bool
@@ -24,8 +15,22 @@ pub record State : Type 0 where
 abbrev pub fresh : State
 fresh = record { line = []; cr = false; told = false; ended = false }
 
+-- the cuts behind the end of the first line
+abbrev pub without_first : Cuts → Cuts
+without_first (Ended line cuts) = cuts
+without_first (Last behind) = Last []
+
+-- the cuts that are left, where the text goes on with bs: those of a line that was told are left out
+abbrev pub cuts_left : State → List ℕ → Cuts
+cuts_left s bs = if s.told then without_first (cuts_after s.cr bs) else before (if s.ended then [] else s.line) (cuts_after s.cr bs)
+
+-- the lines still to come, where the text ends after bs
 abbrev pub to_come : State → List ℕ → List Line
-to_come s bs = map line_of (if s.told then without_first (lines_after s.cr bs) else before (if s.ended then [] else s.line) (lines_after s.cr bs))
+to_come s bs = all_lines (cuts_left s bs)
+
+-- the whole lines still to come in bs
+abbrev pub whole_to_come : State → List ℕ → List Line
+whole_to_come s bs = whole_lines (cuts_left s bs)
 
 -- the line that a cut tells
 abbrev pub line_told : Cut → State → Line

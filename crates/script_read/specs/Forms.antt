@@ -1,0 +1,14 @@
+-- The form that a command names.
+use Rattle.std.specs.Prelude.{ℕ, List, reverse}
+use Rattle.script_model.specs.Commands.{after_blanks, Form, Begins, Whole, Inserts, Deletes, Dump as dump_form}
+use Rattle.script_read.specs.declared.form.Command.{Command}
+use Rattle.script_read.specs.declared.form.Command.TheVariants.{Insert, Delete, Dump}
+
+abbrev pub form_meant : Command → Form
+form_meant Insert = Begins Inserts
+form_meant Delete = Begins Deletes
+form_meant Dump = Whole dump_form
+
+-- without the blanks that end it
+abbrev pub without_blanks_behind : List ℕ → List ℕ
+without_blanks_behind l = reverse (after_blanks (reverse l))

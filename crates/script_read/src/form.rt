@@ -1,0 +1,11 @@
+//! The forms of commands.
+/// What a line outside a block commands. Further commands may be added.
+#[derive(Clone, Copy, Debug, PartialEq, Eq)]
+pub enum Command {
+    /// Begins a block of triples that are added.
+    Insert,
+    /// Begins a block of triples that are taken away.
+    Delete,
+    /// Prints the graph.
+    Dump,
+}

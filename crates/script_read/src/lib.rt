@@ -3,6 +3,8 @@
 
 mod form;
 mod reading;
+mod script;
 
 pub use form::Command;
 pub use reading::{command, skipped};
+pub use script::{Script, ScriptFault};

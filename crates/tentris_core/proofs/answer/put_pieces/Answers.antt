@@ -1,0 +1,20 @@
+use Rattle.std.proofs.Common.{rules, arith, ◌≡◌, ◌∙◌, ◌<◌, length, List, ℕ, Bor}
+use Rattle.std.proofs.lemmas.Result.{err_from_is_err_and}
+use Rattle.tentris_core.proofs.Pieces.{put_more, put_cut}
+use Rattle.tentris_core.proofs.answer.put_pieces.Goals as goal
+
+pub loop-piece-preserved : goal.loop-piece-preserved
+loop-piece-preserved g c = record {
+  same_sink = c.in_ok-put.ensures.same_sink ∙ c.loop-piece.invariant.same_sink;
+  put = put_more (λ (p : Bor (List ℕ)). p.now) _ _ _ c.args.pieces.now c.loop-piece.piece-index _ (omega arith) c.loop-piece.invariant.put c.in_ok-put.ensures.ok;
+  faults = search rules;
+}
+
+pub returns-in_err-put-clause-put : goal.returns-in_err-put-clause-put
+returns-in_err-put-clause-put g c =
+    let failed = err_from_is_err_and c.from_residual.result c.from_residual.ensures.1 in
+    record {
+      put = rw failed.1 tt;
+      cut = rw failed.1 (put_cut (λ (p : Bor (List ℕ)). p.now) _ _ _ c.args.pieces.now c.loop-piece.piece-index _ (omega arith) c.loop-piece.invariant.put c.in_err-put.ensures.err);
+      cause = search rules;
+    }

@@ -1,1 +1,10 @@
+pub mod Bodies
+pub mod Escapes
+pub mod FrontChars
+pub mod Labels
+pub mod LineLemmas
+pub mod Lines
+pub mod Quoted
 pub mod SmallInputs
+pub mod SmallLines
+pub mod Tags

@@ -1,3 +1,5 @@
 pub mod Characters
+pub mod Laws
 pub mod Line
+pub mod LineLaw
 pub mod Terminals

@@ -4,13 +4,10 @@ use Rattle.std.specs.Prelude.{◌≡◌, ℕ, zero, suc, ◌+◌, ◌*◌, ◌-�
 use Rattle.std.specs.List.{list_all, AllByRecursion}
 use Rattle.std.specs.Char.{digit_value, IsScalar, to_ascii_lowercase}
 use Rattle.std.specs.Str.{chars, all_scalars, is_utf8}
+use Rattle.std.proofs.Math.Utf8.{scalar}
 use Rattle.std.specs.Str.Lossy.{utf8_valid_len}
 use Rattle.rdf_model.specs.Terms.{Text}
 use Rattle.ntriples_model.specs.Characters.{is_letter, is_letter_or_digit, is_hex, is_pn_chars, is_label_start, is_iri_char, is_string_char, is_scheme_char}
-
--- whether the number is that of a character: at most 10FFFF, and no surrogate
-abbrev pub is_scalar : ℕ → Bool
-is_scalar c = all_scalars (c ∷ [])
 
 -- Escapes
 
@@ -122,10 +119,10 @@ pub record IsLangTag (terminal text : Text) : Type 0 where
 abbrev pub hex_at : ℕ → List ℕ → Option ℕ
 hex_at count bs = if length (take count bs) == count && list_all is_hex (take count bs) then Some (hex_number (take count bs)) else None
 
--- the number where it is that of a character, and how many bytes it took
+-- the number where it is that of a character, at most 10FFFF and no surrogate, and how many bytes it took
 abbrev pub character : ℕ → Option ℕ → Option (ℕ × ℕ)
 character size None = None
-character size (Some c) = if is_scalar c then Some (c, size) else None
+character size (Some c) = if scalar c then Some (c, size) else None
 
 -- of the bytes behind a backslash: the character of a UCHAR, and how many of them are its own
 abbrev pub uchar_at : List ℕ → Option (ℕ × ℕ)

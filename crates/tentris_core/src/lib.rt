@@ -2,5 +2,7 @@
 #![tactic(auto)]
 
 mod answer;
+mod block;
 
 pub use answer::{Answer, Refusal};
+pub use block::{Block, Change, Place, Staged};

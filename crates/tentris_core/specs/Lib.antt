@@ -1,3 +1,5 @@
 pub mod Seen
 pub mod Puts
 pub mod Places
+pub mod Runs
+pub mod Codes

@@ -3,6 +3,8 @@
 
 mod answer;
 mod block;
+mod run;
 
 pub use answer::{Answer, Refusal};
 pub use block::{Block, Change, Place, Staged};
+pub use run::{MAX_BYTES, Status};

@@ -21,7 +21,8 @@ use Rattle.tn_io.specs.declared.outside.Failed.{Failed}
 use Rattle.tn_io.proofs.KnownLemmas.{append_known-append, begins_trans}
 use Rattle.script_read.specs.ScriptState.{State, HasTold, IsOpen, IsEnded, at_start}
 use Rattle.script_read.specs.ScriptCalls.{NextLine, Tells}
-use Rattle.script_read.specs.declared.script.ScriptFault.TheVariants.{Read, TooLong}
+use Rattle.script_read.specs.declared.script.ScriptFault.{ScriptFault}
+use Rattle.script_read.specs.declared.script.ScriptFault.TheVariants as fault
 use Rattle.script_read.proofs.ScriptLemmas.{at_start_is}
 use Rattle.tentris_core.specs.declared.answer.Answer as rust
 use Rattle.tentris_core.specs.declared.block.Block.{Block}
@@ -30,7 +31,10 @@ use Rattle.tentris_core.specs.declared.block.Place.TheVariants as place
 use Rattle.tentris_core.specs.Seen.{answer_of}
 use Rattle.tentris_core.specs.Places.{Position, Outside, Inside, IsAt, TakesLine, LeadsOn, commands_from, lines_had, lines_in}
 use Rattle.tentris_core.specs.Puts.{Puts, PassesOn, IsPart}
-use Rattle.tentris_core.specs.Runs.{RunsAll, RunsTaken, RunsFront, RunsCut, AreAllowed}
+use Rattle.tentris_core.specs.declared.running.Status.{Status}
+use Rattle.tentris_core.specs.declared.running.Status.TheVariants.{Done, SomeRefused, BadWords, ReadFault, WriteFault, Memory, TooLong}
+use Rattle.tentris_core.specs.Endings.{Finishes}
+use Rattle.tentris_core.specs.Runs.{Ends, RunsAll, RunsTaken, RunsFront, RunsCut, AreAllowed}
 use Rattle.tentris_core.proofs.Pieces.{part_of}
 
 append_none : (a : Option (List ℕ)) → append_known a [] ≡ a
@@ -177,7 +181,7 @@ module _ (max : ℕ) (G M : Graph) (l0 l1 : Option (List ℕ)) (s : State) (spot
   closed_commands = ap (filter is_closed) all_commands ∙ filter_front h.commands (commands_from h.position []) h.closed ∙ ap (λ z. h.commands ++ z) (none_closed h.position) ∙ append-nil h.commands
 
   -- a read failed
-  pub run_fails : (l2 : Option (List ℕ)) (t : State) → NextLine l1 l2 s t (Err Read) → RunsTaken max G M l0 l2 before now
+  pub run_fails : (l2 : Option (List ℕ)) (t : State) → NextLine l1 l2 s t (Err fault.Read) → RunsTaken max G M l0 l2 before now
   run_fails l2 t n =
       let tells = n.tells max h.taken h.told h.tells in
       record {
@@ -190,7 +194,7 @@ module _ (max : ℕ) (G M : Graph) (l0 l1 : Option (List ℕ)) (s : State) (spot
       }
 
   -- the script is too long
-  pub run_too_long : (l2 : Option (List ℕ)) (t : State) → NextLine l1 l2 s t (Err TooLong) → RunsFront max G M l0 l2 before now
+  pub run_too_long : (l2 : Option (List ℕ)) (t : State) → NextLine l1 l2 s t (Err fault.TooLong) → RunsFront max G M l0 l2 before now
   run_too_long l2 t n =
       let tells = n.tells max h.taken h.told h.tells in
       record {
@@ -333,3 +337,37 @@ module _ (max : ℕ) (G M : Graph) (l0 l1 : Option (List ℕ)) (s : State) (spot
               ∙ filter_front (h.commands ++ k.leads.0 ∷ []) (commands_from k.next more) (all_more h.commands k.leads.0 h.closed k.leads.1))
         by (inr o) = inr (o.at_end, o.within, commands_from k.next [],
             ap commands_of (o.lines ∙ sym (append-nil (h.told ++ line_told cut t.cutter ∷ []))) ∙ next_are [])
+
+  -- the script ends, wherever it stands
+  pub run_finishes : {K : Type 0} (written : K → Option (List ℕ)) (old new : Out K) (l2 : Option (List ℕ)) (t : State) (status : Status) → NextLine l1 l2 s t (Ok None) → now ≡ written old.sink.now
+      → Finishes written spot refused old new status → Ends status max G M l0 l2 before (written new.sink.now)
+  run_finishes written old new l2 t status n is f = by spot refl status f where
+    outside_ends : (q : Place) → spot ≡ q → q ≡ place.Outside → (b : Bool) → refused ≡ b → (then : Option (List ℕ)) → then ≡ now → Ends (cond b SomeRefused Done) max G M l0 l2 before then
+    outside_ends q e o true r then w = subst (λ b. RunsAll max b G M l0 l2 before then) r (subst (λ z. RunsAll max refused G M l0 l2 before z) (sym w) (run_ends l2 t (e ∙ o) n))
+    outside_ends q e o false r then w = subst (λ b. RunsAll max b G M l0 l2 before then) r (subst (λ z. RunsAll max refused G M l0 l2 before z) (sym w) (run_ends l2 t (e ∙ o) n))
+
+    by : (q : Place) → spot ≡ q → (status : Status) → Finishes written q refused old new status → Ends status max G M l0 l2 before (written new.sink.now)
+    by place.Outside e status f = subst (λ z. Ends z max G M l0 l2 before (written new.sink.now)) (sym f.0) (outside_ends place.Outside e refl refused refl (written new.sink.now) (f.1 ∙ sym is))
+    by (place.Inside block) e SomeRefused f = run_ends_inside l2 t block e n (written new.sink.now) (f ∙ ap (λ z. append_known z (answer_text (Refused EndInBlock))) (sym is))
+    by (place.Inside block) e WriteFault f = run_ends_cut l2 t block e n (written new.sink.now) (subst (λ z. IsPart z (written new.sink.now) (answer_text (Refused EndInBlock))) (sym is) f)
+    by (place.Inside block) e Done f = absurd f
+    by (place.Inside block) e BadWords f = absurd f
+    by (place.Inside block) e ReadFault f = absurd f
+    by (place.Inside block) e Memory f = absurd f
+    by (place.Inside block) e TooLong f = absurd f
+
+pub or_then : (a b : Bool) → a ≡ true → true ≡ (a || b)
+or_then true b e = refl
+or_then false b e = absurd (let t : ⊥ = cc in t)
+
+pub or_else : (a b : Bool) → a ≡ false → b ≡ (a || b)
+or_else true b e = absurd (let t : ⊥ = cc in t)
+or_else false b e = refl
+
+-- a call of the next line, by what it answered
+pub next_at : {a b : Option (List ℕ)} {s t : State} (r q : Result (Option Cut) ScriptFault) → r ≡ q → NextLine a b s t r → NextLine a b s t q
+next_at {a} {b} {s} {t} r q e n = subst (λ z. NextLine a b s t z) e n
+
+-- a line that was taken, by which line it was and what it answered
+pub takes_at : {p : Position} {G H : Graph} {q : Place} (l m : Line) (o r : Option rust.Answer) → l ≡ m → o ≡ r → TakesLine p l G H q o → TakesLine p m G H q r
+takes_at {p} {G} {H} {q} l m o r e f k = subst (λ z. TakesLine p m G H q z) f (subst (λ z. TakesLine p z G H q o) e k)

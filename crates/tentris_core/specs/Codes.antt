@@ -1,7 +1,7 @@
 -- The exit statuses of the program (docs/SCRIPT.md, "How a run ends").
 use Rattle.std.specs.Prelude.{ℕ}
-use Rattle.tentris_core.specs.declared.run.Status.{Status}
-use Rattle.tentris_core.specs.declared.run.Status.TheVariants.{Done, SomeRefused, BadWords, ReadFault, WriteFault, Memory, TooLong}
+use Rattle.tentris_core.specs.declared.running.Status.{Status}
+use Rattle.tentris_core.specs.declared.running.Status.TheVariants.{Done, SomeRefused, BadWords, ReadFault, WriteFault, Memory, TooLong}
 
 abbrev pub code_of : Status → ℕ
 code_of Done = 0

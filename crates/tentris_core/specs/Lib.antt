@@ -3,3 +3,4 @@ pub mod Puts
 pub mod Places
 pub mod Runs
 pub mod Codes
+pub mod Endings

@@ -9,8 +9,8 @@ use Rattle.script_model.specs.Commands.{Command, commands_of, closed_commands_of
 use Rattle.run_model.specs.Answers.{Answer, answer_text, text_of, is_refused}
 use Rattle.run_model.specs.Steps.{Run}
 use Rattle.tentris_core.specs.Puts.{IsPart}
-use Rattle.tentris_core.specs.declared.run.Status.{Status}
-use Rattle.tentris_core.specs.declared.run.Status.TheVariants.{Done, SomeRefused, BadWords, ReadFault, WriteFault, Memory, TooLong}
+use Rattle.tentris_core.specs.declared.running.Status.{Status}
+use Rattle.tentris_core.specs.declared.running.Status.TheVariants.{Done, SomeRefused, BadWords, ReadFault, WriteFault, Memory, TooLong}
 
 -- The source was read to its end: all commands were carried out and answered. `refused` says whether one was refused.
 pub record RunsAll (max : ℕ) (refused : Bool) (G H : Graph) (left_before left_now written_before written_now : Option (List ℕ)) : Type 0 where

@@ -3,8 +3,8 @@
 
 mod answer;
 mod block;
-mod run;
+mod running;
 
 pub use answer::{Answer, Refusal};
 pub use block::{Block, Change, Place, Staged};
-pub use run::{MAX_BYTES, Status};
+pub use running::{MAX_BYTES, Status, run};

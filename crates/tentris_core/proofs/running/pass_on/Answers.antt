@@ -1,7 +1,7 @@
 use Rattle.std.proofs.Common.{rules}
 use Rattle.std.proofs.lemmas.Result.{err_from_is_err_and}
 use Rattle.tentris_core.proofs.RunLemmas.{pass_cut, pass_whole}
-use Rattle.tentris_core.proofs.run.pass_on.Goals as goal
+use Rattle.tentris_core.proofs.running.pass_on.Goals as goal
 
 pub returns-in_err-put-clause-text : goal.returns-in_err-put-clause-text
 returns-in_err-put-clause-text g c =

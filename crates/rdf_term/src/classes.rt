@@ -1,5 +1,5 @@
 //! The classes of characters that the terminals are made of (`ntriples_model`'s `specs/Characters.antt`).
-ghost use Rattle.std.specs.Prelude.{◌≡◌, if◌then◌else◌, Some, None};
+ghost use Rattle.std.specs.Prelude.{◌≡◌, ◌<◌, true, false, MatchOption};
 ghost use Rattle.std.specs.Char.{digit_value};
 ghost use Rattle.ntriples_model.specs.Characters.{is_letter, is_letter_or_digit, is_hex, is_label_start, is_pn_chars, is_pn_chars_base, is_iri_char, is_string_char, is_scheme_char};
 
@@ -8,7 +8,19 @@ ghost use Rattle.ntriples_model.specs.Characters.{is_letter, is_letter_or_digit,
 pub(crate) fn fits_iri(b: u8) -> bool
     ensures { result ≡ is_iri_char b }
 {
-    b > b' ' && !matches!(b, b'<' | b'>' | b'"' | b'{' | b'}' | b'|' | b'^' | b'`' | b'\\')
+    b > b' '
+        && !matches!(
+            b,
+            b'<' | b'>' | b'"' | b'{' | b'}' | b'|' | b'^' | b'`' | b'\\'
+        )
+}
+
+/// A character that IRIREF doesn't leave out.
+#[tactic(auto, using(std::proofs::lemmas::Bool::Decides::nat_tests), unfolding(ntriples_model::specs::Characters::is_iri_char))]
+pub(crate) fn in_iri(c: char) -> bool
+    ensures { result ≡ is_iri_char c }
+{
+    c > ' ' && !matches!(c, '<' | '>' | '"' | '{' | '}' | '|' | '^' | '`' | '\\')
 }
 
 /// A byte of a string that stands for itself.
@@ -44,7 +56,7 @@ pub(crate) fn fits_scheme(b: u8) -> bool
 /// The value of a hexadecimal digit.
 #[tactic(auto, using(std::proofs::lemmas::Bool::Decides::nat_tests), unfolding(ntriples_model::specs::Characters::is_hex))]
 pub(crate) fn hex_value(b: u8) -> Option<u8>
-    ensures { result ≡ (if is_hex b then Some (digit_value b) else None) }
+    ensures { MatchOption result (is_hex b ≡ false) (λ v. (is_hex b ≡ true) × (v ≡ digit_value b) × (v < 16)) }
 {
     match b {
         b'0'..=b'9' => Some(b - b'0'),

@@ -167,7 +167,7 @@ pub record EscapeFacts (escape : Text) (c : ℕ) : Type 0 where
   pub character : IsScalar c
   pub short : length (encode_utf8 c) ≤ length escape
 
-ascii_utf8 : (bs : List ℕ) → AllByRecursion (λ b. b < 128) bs → IsUtf8 bs
+pub ascii_utf8 : (bs : List ℕ) → AllByRecursion (λ b. b < 128) bs → IsUtf8 bs
 ascii_utf8 [] h = IsUtf8-nil
 ascii_utf8 (b ∷ bs) h =
     let first : b < 128 = h.0 in

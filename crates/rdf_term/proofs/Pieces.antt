@@ -1,16 +1,16 @@
 -- A body, piece by piece.
-use Rattle.std.proofs.Common.{◌≡◌, ◌∙◌, ℕ, zero, suc, ◌+◌, ◌-◌, ◌<◌, ◌≤◌, Bool, true, false, cond, List, [], ◌∷◌, ◌++◌, length, get_or, take, drop, refl, sym, ap, subst, append_assoc, length-append, arith, Option, Some, None}
+use Rattle.std.proofs.Common.{◌≡◌, ◌∙◌, ℕ, suc, ◌+◌, ◌-◌, ◌<◌, ◌≤◌, Bool, true, false, cond, List, [], ◌∷◌, ◌++◌, length, get_or, take, drop, refl, sym, ap, subst, append_assoc, length-append, arith, Option, Some, None}
 use Rattle.std.specs.Prelude.{IsUtf8, encode_utf8, ◌==◌}
 use Rattle.std.specs.List.{prefix_len}
 use mathlib.Core.Bool.{true≢false}
 use Rattle.std.proofs.lemmas.Bool.Decides.{nat_tests}
-use Rattle.std.proofs.lemmas.List.{append-nil, length-take, length-drop, take-append-drop, drop-drop, take-take, get_or-take}
+use Rattle.std.proofs.lemmas.List.{append-nil, length-take, length-drop, drop-drop, take-take, get_or-take}
 use Rattle.std.proofs.lemmas.List.Sums.{prefix_len-le-length, prefix_len_stops}
 use Rattle.std.proofs.lemmas.Str.{IsUtf8-append, IsUtf8-nil, IsUtf8-take, IsCharBoundary-before_ascii}
 use Rattle.std.proofs.Math.Seq.{take-add}
 use Rattle.rdf_model.specs.Terms.{Text}
 use Rattle.ntriples_model.specs.Characters.{is_iri_char, is_string_char}
-use Rattle.ntriples_model.specs.Terminals.{body_at, longer, IsIriEscape, IsStringEscape, iri_escape_at, string_escape_at}
+use Rattle.ntriples_model.specs.Terminals.{body_at, longer, IsIriEscape, IsStringEscape}
 use Rattle.ntriples_model.proofs.Bodies.{Found, FindsEscapes, Parts, Spells, body_found, longer_some, skipped}
 use Rattle.ntriples_model.proofs.Escapes.{iri_escapes, string_escapes, ascii_utf8, EscapeFacts, iri_facts, string_facts}
 use Rattle.ntriples_model.proofs.FrontChars.{utf8_of_rest}
@@ -54,7 +54,7 @@ ascii_stops Quoted b h = string_stops b h
 found : (form : Form) (bytes text rest : List ℕ) → body_of form bytes ≡ Some (text, rest) → Spells (fits_of form) (close_of form) (escapes_of form) bytes text rest
 found form bytes text rest h = body_found (fits_of form) (close_of form) (escapes_of form) (escape_of form) (finds_escapes form) bytes 0 text rest h
 
-shorter : (form : Form) (bytes text rest : List ℕ) → body_of form bytes ≡ Some (text, rest) → length rest < length bytes
+pub shorter : (form : Form) (bytes text rest : List ℕ) → body_of form bytes ≡ Some (text, rest) → length rest < length bytes
 shorter form bytes text rest h =
     let s = found form bytes text rest h in
     omega (arith, ap length s.bytes_are, length-append s.raw (close_of form ∷ rest))

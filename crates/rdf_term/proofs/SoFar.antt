@@ -1,5 +1,5 @@
 -- What a loop over a body keeps: the bytes so far stand for what the last text grew by.
-use Rattle.std.proofs.Common.{◌≡◌, ◌∙◌, ◌<◌, ◌≤◌, ◌+◌, ◌-◌, ℕ, length, List, [], ◌++◌, take, drop, refl, sym, ap, subst, arith, Option, None}
+use Rattle.std.proofs.Common.{◌≡◌, ◌∙◌, ◌<◌, ◌≤◌, ◌+◌, ◌-◌, ℕ, length, List, [], ◌++◌, take, drop, sym, ap, subst, arith}
 use Rattle.std.specs.Prelude.{encode_utf8}
 use Rattle.std.proofs.lemmas.List.{length-drop, drop-drop, take_rest}
 use Rattle.rdf_model.specs.Terms.{Text}

@@ -1,5 +1,5 @@
 -- The body of an IRI or a string, and what a reader of it says.
-use Rattle.std.specs.Prelude.{◌≡◌, ℕ, ◌+◌, ◌-◌, ◌<◌, ◌≤◌, Bool, List, [], ◌∷◌, ◌++◌, length, take, drop, Option, Some, None, MatchOption, encode_utf8, IsUtf8}
+use Rattle.std.specs.Prelude.{◌≡◌, ℕ, ◌-◌, ◌<◌, ◌≤◌, Bool, List, [], length, take, drop, Option, Some, None, MatchOption, encode_utf8, IsUtf8}
 use Rattle.std.specs.List.{prefix_len}
 use Rattle.std.specs.Borrow.{Bor}
 use Rattle.rdf_model.specs.Terms.{Text}

@@ -1,5 +1,5 @@
 //! The body of an IRI or a string: runs of bytes that stand for themselves, and escapes between them.
-ghost use Rattle.std.specs.Prelude.{◌≡◌, ◌<◌, ◌≤◌, length, Option};
+ghost use Rattle.std.specs.Prelude.{◌≡◌, ◌≢◌, ◌<◌, ◌≤◌, ℕ, List, ◌∷◌, length, Option, MatchOption};
 ghost use Rattle.std.specs.List.{prefix_len};
 ghost use Rattle.rdf_term.specs.Body.{fits_of, close_of, escape_of, RunsTo, StopsAt, ReadsBody};
 ghost use Rattle.rdf_term.specs.Room.{room_of};
@@ -8,6 +8,14 @@ use crate::classes::{fits_iri, fits_string};
 use crate::escape::{iri_escape, string_escape};
 use crate::scratch::Scratch;
 use std::str;
+
+/// What is behind the first byte, where it is this one.
+pub(crate) fn behind(first: u8, bytes: &[u8]) -> Option<&[u8]>
+    ensures { MatchOption result ((rest : List ℕ) → bytes.now ≢ first ∷ rest) (λ rest. bytes.now ≡ first ∷ rest.now) }
+{
+    let (b, rest) = bytes.split_first()?;
+    if *b == first { Some(rest) } else { None }
+}
 
 /// Which of the two it is.
 #[derive(Clone, Copy)]

@@ -5,7 +5,7 @@ ghost use Rattle.ntriples_model.specs.Terminals.{iri_at, string_at, is_scheme_re
 ghost use Rattle.rdf_term.specs.Read.{Reads};
 ghost use Rattle.rdf_term.specs.Room.{room_of};
 
-use crate::body::{Form, read_body};
+use crate::body::{Form, behind, read_body};
 use crate::classes::{fits_scheme, letter};
 use crate::scratch::Scratch;
 
@@ -42,9 +42,7 @@ pub fn read_iri(bytes: &[u8], to: &mut Scratch) -> Option<usize>
     requires room { length bytes.now ≤ room_of to.old }
     ensures { Reads (iri_at bytes.now) bytes.now to.old to.new result }
 {
-    let Some((b'<', body)) = bytes.split_first() else {
-        return None;
-    };
+    let body = behind(b'<', bytes)?;
     to.add();
     if let Some(size) = read_body(Form::Iri, body, to) {
         if absolute(to.last().as_bytes()) {
@@ -62,9 +60,7 @@ pub fn read_string(bytes: &[u8], to: &mut Scratch) -> Option<usize>
     requires room { length bytes.now ≤ room_of to.old }
     ensures { Reads (string_at bytes.now) bytes.now to.old to.new result }
 {
-    let Some((b'"', body)) = bytes.split_first() else {
-        return None;
-    };
+    let body = behind(b'"', bytes)?;
     to.add();
     if let Some(size) = read_body(Form::Quoted, body, to) {
         return Some(size + 1);

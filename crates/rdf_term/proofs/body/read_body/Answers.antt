@@ -1,9 +1,7 @@
-use Rattle.std.proofs.Common.{◌≡◌, ◌∙◌, ◌<◌, ◌≤◌, ◌+◌, ◌-◌, ℕ, length, List, take, drop, sym, ap, subst, arith, Option}
+use Rattle.std.proofs.Common.{◌∙◌, ℕ, length, sym, ap, subst, arith, Option}
 use Rattle.std.specs.List.{prefix_len}
 use Rattle.rdf_term.specs.Body.{ReadsBody, fits_of}
-use Rattle.rdf_term.specs.Room.{room_of, joined}
 use Rattle.rdf_term.proofs.SoFar.{at_start, after_run, after_escape, fits_room, ends_there, none_behind, bad_behind, closed_behind}
-use Rattle.rdf_term.proofs.Texts.{length-joined}
 use Rattle.rdf_term.proofs.body.read_body.Goals as goal
 
 pub loop-run-init : goal.loop-run-init

@@ -1,4 +1,3 @@
-use Rattle.std.proofs.Common.{◌≡◌, List, length, take}
 use Rattle.rdf_term.proofs.Pieces.{run_is, bad_run}
 use Rattle.rdf_term.proofs.body.run_at.Goals as goal
 

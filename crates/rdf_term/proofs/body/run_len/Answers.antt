@@ -1,4 +1,4 @@
-use Rattle.std.proofs.Common.{◌≡◌, ◌∙◌, sym, arith, below_more, length}
+use Rattle.std.proofs.Common.{◌∙◌, sym, arith, below_more, length}
 use Rattle.std.proofs.lemmas.List.Sums.{prefix_len_is}
 use Rattle.rdf_term.specs.Body.{fits_of}
 use Rattle.rdf_term.proofs.body.run_len.Goals as goal

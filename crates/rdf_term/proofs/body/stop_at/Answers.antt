@@ -1,4 +1,4 @@
-use Rattle.std.proofs.Common.{◌≡◌, ◌∙◌, ◌+◌, sym, ap, arith, subst, drop, length, ℕ, List, [], ◌∷◌, refl}
+use Rattle.std.proofs.Common.{◌≡◌, ◌∙◌, sym, ap, arith, length, ℕ, List, [], ◌∷◌, refl}
 use Rattle.rdf_term.specs.Body.{body_of}
 use Rattle.rdf_term.proofs.Pieces.{at_end, stop_closed, stop_other, stop_bad_escape, stop_escape, finds_escapes}
 use Rattle.rdf_term.proofs.body.stop_at.Goals as goal

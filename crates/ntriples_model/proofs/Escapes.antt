@@ -1,5 +1,5 @@
 -- The escapes of IRIs and strings: what is found is one, and one is found.
-use Rattle.std.proofs.Common.{◌≡◌, ◌∙◌, ◌+◌, ◌<◌, ◌≤◌, ℕ, Bool, true, false, cond, ◌&&◌, List, [], ◌∷◌, ◌++◌, length, take, refl, sym, ap, subst, arith, Option, Some, None}
+use Rattle.std.proofs.Common.{◌≡◌, ◌<◌, ◌≤◌, ℕ, Bool, true, false, cond, ◌&&◌, List, [], ◌∷◌, ◌++◌, length, take, refl, sym, ap, subst, arith, Option, Some, None}
 use Rattle.std.specs.Prelude.{◌==◌}
 use Rattle.std.specs.List.{list_all, AllByRecursion}
 use Rattle.std.specs.Prelude.{IsUtf8}
@@ -62,21 +62,23 @@ uchar_found (b ∷ bs) c size h =
     elim (b == 117) as (λ e. (b == 117) ≡ e → cond {A = Option (ℕ × ℕ)} e (character 5 (hex_at 4 bs)) (cond {A = Option (ℕ × ℕ)} (b == 85) (character 9 (hex_at 8 bs)) None) ≡ Some (c, size) → IsUchar (92 ∷ take size (b ∷ bs)) c × (size ≤ length (b ∷ bs))) [
       | true ↦ λ e h.
           let p = character_some 5 (hex_at 4 bs) c size h in
-          let x = hex_found 4 bs c p.0 in
-          (subst (λ (n : ℕ). IsUchar (92 ∷ take n (b ∷ bs)) c) p.2
-          (subst (λ (n : ℕ). IsUchar (92 ∷ n ∷ take 4 bs) c) (sym (is_same b 117 e))
-          (subst (λ (n : ℕ). IsUchar (92 ∷ 117 ∷ take 4 bs) n) x.1
-          (short (take 4 bs) x.0 (subst (λ (n : ℕ). scalar n ≡ true) (sym x.1) p.1)))),
-           omega (arith, p.2, x.0.count_is, length-take 4 bs))
+          let x = hex_found 4 bs c p.0 in (
+            subst (λ (n : ℕ). IsUchar (92 ∷ take n (b ∷ bs)) c) p.2
+                (subst (λ (n : ℕ). IsUchar (92 ∷ n ∷ take 4 bs) c) (sym (is_same b 117 e))
+                (subst (λ (n : ℕ). IsUchar (92 ∷ 117 ∷ take 4 bs) n) x.1
+                (short (take 4 bs) x.0 (subst (λ (n : ℕ). scalar n ≡ true) (sym x.1) p.1)))),
+            omega (arith, p.2, x.0.count_is, length-take 4 bs),
+          )
       | false ↦ λ e h. elim (b == 85) as (λ e. (b == 85) ≡ e → cond {A = Option (ℕ × ℕ)} e (character 9 (hex_at 8 bs)) None ≡ Some (c, size) → IsUchar (92 ∷ take size (b ∷ bs)) c × (size ≤ length (b ∷ bs))) [
         | true ↦ λ e h.
             let p = character_some 9 (hex_at 8 bs) c size h in
-            let x = hex_found 8 bs c p.0 in
-            (subst (λ (n : ℕ). IsUchar (92 ∷ take n (b ∷ bs)) c) p.2
-            (subst (λ (n : ℕ). IsUchar (92 ∷ n ∷ take 8 bs) c) (sym (is_same b 85 e))
-            (subst (λ (n : ℕ). IsUchar (92 ∷ 85 ∷ take 8 bs) n) x.1
-            (long (take 8 bs) x.0 (subst (λ (n : ℕ). scalar n ≡ true) (sym x.1) p.1)))),
-             omega (arith, p.2, x.0.count_is, length-take 8 bs))
+            let x = hex_found 8 bs c p.0 in (
+              subst (λ (n : ℕ). IsUchar (92 ∷ take n (b ∷ bs)) c) p.2
+                  (subst (λ (n : ℕ). IsUchar (92 ∷ n ∷ take 8 bs) c) (sym (is_same b 85 e))
+                  (subst (λ (n : ℕ). IsUchar (92 ∷ 85 ∷ take 8 bs) n) x.1
+                  (long (take 8 bs) x.0 (subst (λ (n : ℕ). scalar n ≡ true) (sym x.1) p.1)))),
+              omega (arith, p.2, x.0.count_is, length-take 8 bs),
+            )
         | false ↦ λ e h. cc
       ] refl h
     ] refl h

@@ -1,0 +1,4 @@
+pub mod JoinedLemmas
+pub mod PlaceLemmas
+pub mod TermLemmas
+pub mod TerminalLemmas

@@ -1,4 +1,3 @@
-pub mod JoinedLemmas
 pub mod PlaceLemmas
 pub mod TermLemmas
 pub mod TerminalLemmas

@@ -10,9 +10,9 @@ use Rattle.ntriples_model.specs.Line.{made, scoped}
 use Rattle.ntriples_model.specs.Terminals.{label_at}
 use Rattle.ntriples_model.proofs.Labels.{labels}
 use Rattle.rdf_term.specs.Read.{IsRead}
+use Rattle.rdf_term.proofs.Texts.{joined-last, length-joined, room-added, room-joined, dropped}
 use Rattle.rdf_term.specs.Room.{room_of, joined}
 use Rattle.ntriples.specs.Places.{ReadsText, scoped_label_at}
-use Rattle.ntriples.proofs.JoinedLemmas.{joined-last, length-joined, sum_by-joined}
 
 pub text_read : (found : Option (Text × Text)) (bytes : Text) (old new : List Text) (place size : ℕ) (rest : Text) → IsRead found bytes old new size → place ≡ length old
     → rest ≡ take (length bytes - size) (drop size bytes) → ReadsText 0 found bytes old new place rest
@@ -70,18 +70,13 @@ under_scope : (scope label : Text) → 0 < length scope → scoped scope label �
 under_scope [] label some = absurd (omega arith)
 under_scope (b ∷ scope) label some = refl
 
-front_of : (texts : List Text) (text : Text) → take (length (texts ++ text ∷ []) - 1) (texts ++ text ∷ []) ≡ texts
-front_of texts text =
-    let count : length (texts ++ text ∷ []) - 1 ≡ length texts = omega (arith, length-append texts (text ∷ [])) in
-    ap (λ n. take n (texts ++ text ∷ [])) count ∙ take-append_seam texts (text ∷ [])
-
 pub scoped_read : (scope bytes : Text) (old read new : List Text) (place size : ℕ) (rest : Text) → 0 < length scope → length scope ≤ 64 → (r : IsRead (label_at bytes) bytes old read size) → place ≡ length old
     → rest ≡ take (length bytes - size) (drop size bytes) → new ≡ take (length read - 1) read ++ (scope ++ (46 ∷ 46 ∷ take (size - 2) (drop 2 bytes))) ∷ []
     → ReadsText 64 (scoped_label_at scope bytes) bytes old new place rest
 scoped_read scope bytes old read new place size rest some short r at behind put =
     let p = label_places bytes old read size r in
     let text : Text = scope ++ (46 ∷ 46 ∷ r.text) in
-    let front : take (length read - 1) read ≡ old = ap (λ z. take (length z - 1) z) r.texts ∙ front_of old r.text in
+    let front : take (length read - 1) read ≡ old = ap (λ z. take (length z - 1) z) r.texts ∙ dropped old r.text in
     let rest_is : rest ≡ drop size bytes = behind ∙ take_all (length bytes - size) (drop size bytes) (omega (arith, length-drop size bytes)) in
     record {
       text = text;
@@ -100,27 +95,26 @@ put_is old front begun one two three scope label f b e1 e2 e3 =
     ∙ joined-last front (scope ++ 46 ∷ 46 ∷ []) label ∙ ap (λ z. z ++ ((scope ++ 46 ∷ 46 ∷ []) ++ label) ∷ []) f
     ∙ ap (λ z. take (length old - 1) old ++ z ∷ []) (append_assoc scope (46 ∷ 46 ∷ []) label)
 
-begun_sum : (front begun : List Text) → begun ≡ front ++ [] ∷ [] → sum_by length begun ≡ sum_by length front
-begun_sum front begun b = omega (arith, ap (sum_by length) b, sum_by-append length front ([] ∷ []))
+begun_room : (front begun : List Text) → begun ≡ front ++ [] ∷ [] → (room_of begun ≡ room_of front) × (0 < length begun)
+begun_room front begun b = (ap room_of b ∙ room-added front, omega (arith, ap length b, length-append front ([] ∷ [])))
 
-begun_some : (front begun : List Text) → begun ≡ front ++ [] ∷ [] → 0 < length begun
-begun_some front begun b = omega (arith, ap length b, length-append front ([] ∷ []))
-
-joined_sum : (before now : List Text) (piece : Text) → now ≡ joined before piece → 0 < length before → sum_by length now ≡ sum_by length before + length piece
-joined_sum before now piece e some = ap (sum_by length) e ∙ sum_by-joined before piece some
-
-joined_some : (before now : List Text) (piece : Text) → now ≡ joined before piece → 0 < length before → 0 < length now
-joined_some before now piece e some = omega (arith, ap length e, length-joined before piece)
+joined_room : (before now : List Text) (piece : Text) → now ≡ joined before piece → 0 < length before → (room_of now ≡ room_of before - length piece) × (0 < length now)
+joined_room before now piece e some = (ap room_of e ∙ room-joined before piece some, omega (arith, ap length e, length-joined before piece))
 
 -- the room for the full stops and for the label
 pub stops_fit : (front begun one : List Text) (scope label : Text) → begun ≡ front ++ [] ∷ [] → one ≡ joined begun scope → sum_by length front + length label + length scope + 2 ≤ 2098176 → 2 ≤ room_of one
-stops_fit front begun one scope label b e room = omega (arith, begun_sum front begun b, joined_sum begun one scope e (begun_some front begun b))
+stops_fit front begun one scope label b e room =
+    let first = begun_room front begun b in
+    let second = joined_room begun one scope e first.1 in
+    omega (arith, first.0, second.0)
 
 pub label_fits : (front begun one two : List Text) (scope label : Text) → begun ≡ front ++ [] ∷ [] → one ≡ joined begun scope → two ≡ joined one (46 ∷ 46 ∷ [])
     → sum_by length front + length label + length scope + 2 ≤ 2098176 → length label ≤ room_of two
 label_fits front begun one two scope label b e d room =
-    let some : 0 < length begun = begun_some front begun b in
-    omega (arith, begun_sum front begun b, joined_sum begun one scope e some, joined_sum one two (46 ∷ 46 ∷ []) d (joined_some begun one scope e some))
+    let first = begun_room front begun b in
+    let second = joined_room begun one scope e first.1 in
+    let third = joined_room one two (46 ∷ 46 ∷ []) d second.1 in
+    omega (arith, first.0, second.0, third.0)
 
 -- what is asked of a label that was read
 pub label_utf8 : (bytes : Text) (old new : List Text) (size : ℕ) → IsRead (label_at bytes) bytes old new size → IsUtf8 (take (size - 2) (drop 2 bytes))
@@ -133,7 +127,7 @@ pub label_room : (scope bytes : Text) (old new : List Text) (size : ℕ) → IsR
     → sum_by length (take (length new - 1) new) + length (take (size - 2) (drop 2 bytes)) + length scope + 2 ≤ 2098176
 label_room scope bytes old new size r short room =
     let p = label_places bytes old new size r in
-    let front : take (length new - 1) new ≡ old = ap (λ z. take (length z - 1) z) r.texts ∙ front_of old r.text in
+    let front : take (length new - 1) new ≡ old = ap (λ z. take (length z - 1) z) r.texts ∙ dropped old r.text in
     omega (arith, ap (sum_by length) front, ap length p.text_is, p.size_is, r.within)
 
 pub not_empty : (text : Text) (empty : Bool) → empty ≡ (length text == 0) → empty ≡ false → 0 < length text

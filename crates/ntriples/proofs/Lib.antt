@@ -1,0 +1,3 @@
+pub mod PlaceLemmas
+pub mod TermLemmas
+pub mod TerminalLemmas

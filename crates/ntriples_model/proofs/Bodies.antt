@@ -1,5 +1,5 @@
 -- The body of an IRI or a string: what is found is spelled by the productions, and nothing else is.
-use Rattle.std.proofs.Common.{◌≡◌, ◌∙◌, ℕ, zero, suc, Bool, true, false, cond, List, [], ◌∷◌, ◌++◌, length, take, drop, refl, sym, ap, subst, append_assoc, arith, Option, Some, None}
+use Rattle.std.proofs.Common.{◌≡◌, ◌∙◌, ◌≤◌, ℕ, zero, suc, Bool, true, false, cond, List, [], ◌∷◌, ◌++◌, length, take, drop, refl, sym, ap, subst, append_assoc, arith, Option, Some, None}
 use Rattle.std.specs.Prelude.{◌==◌, encode_utf8}
 use mathlib.Core.Bool.{true≢false}
 use Rattle.std.proofs.lemmas.Bool.Decides.{nat_tests}
@@ -13,7 +13,7 @@ Found = Option (Text × Text)
 
 -- the escapes of a body: what is found is one, and one is found
 pub record FindsEscapes (IsEscape : Text → ℕ → Type 0) (escape_at : List ℕ → Option (ℕ × ℕ)) : Type 0 where
-  pub found : (bs : List ℕ) (c size : ℕ) → escape_at bs ≡ Some (c, size) → IsEscape (92 ∷ take size bs) c
+  pub found : (bs : List ℕ) (c size : ℕ) → escape_at bs ≡ Some (c, size) → IsEscape (92 ∷ take size bs) c × (size ≤ length bs)
   pub only : (escape : Text) (c : ℕ) → IsEscape escape c → (e : Text) × (escape ≡ 92 ∷ e) × ((rest : List ℕ) → escape_at (e ++ rest) ≡ Some (c, length e))
 
 -- bytes that are a body, the closing character, and the rest
@@ -66,7 +66,7 @@ body_found fits close IsEscape escape_at f (b ∷ bs) zero text rest h =
           | true ↦ λ s h.
               let p = escape_then_some (escape_at bs) (λ skip. body_at fits close escape_at skip bs) text rest h in
               let inner = body_found fits close IsEscape escape_at f bs p.1 p.2 rest p.4 in
-              let escape = f.found bs p.0 p.1 p.3 in
+              let escape = (f.found bs p.0 p.1 p.3).0 in
               let bytes : b ∷ bs ≡ ((92 ∷ take p.1 bs) ++ inner.raw) ++ close ∷ rest =
               ap (λ x. x ∷ bs) (is_same b 92 s) ∙ ap (λ z. 92 ∷ z) (sym (take-append-drop p.1 bs) ∙ ap (λ z. take p.1 bs ++ z) inner.bytes_are ∙ sym (append_assoc (take p.1 bs) inner.raw (close ∷ rest))) in
               subst (λ (q : Text). Spells fits close IsEscape (b ∷ bs) q rest) p.5

@@ -1,15 +1,19 @@
 -- The escapes of IRIs and strings: what is found is one, and one is found.
-use Rattle.std.proofs.Common.{◌≡◌, ℕ, Bool, true, false, cond, ◌&&◌, List, [], ◌∷◌, ◌++◌, length, take, refl, sym, ap, subst, arith, Option, Some, None}
+use Rattle.std.proofs.Common.{◌≡◌, ◌<◌, ◌≤◌, ℕ, Bool, true, false, cond, ◌&&◌, List, [], ◌∷◌, ◌++◌, length, take, refl, sym, ap, subst, arith, Option, Some, None}
 use Rattle.std.specs.Prelude.{◌==◌}
 use Rattle.std.specs.List.{list_all, AllByRecursion}
-use Rattle.std.proofs.Math.Utf8.{scalar}
+use Rattle.std.specs.Prelude.{IsUtf8}
+use Rattle.std.specs.Char.{IsScalar, encode_utf8}
+use Rattle.std.proofs.lemmas.Str.{IsUtf8-append, IsUtf8-encode, IsUtf8-nil, encode_ascii, length-encode, len_utf8_bounds}
+use Rattle.std.proofs.lemmas.List.{length-take}
+use Rattle.std.proofs.Math.Utf8.{scalar, low_scalar}
 use mathlib.Core.Bool.{true≢false}
 use mathlib.Core.Logic.{inl, inr}
 use Rattle.std.proofs.lemmas.Bool.Decides.{nat_tests}
 use Rattle.std.proofs.Math.Seq.{take-append_seam}
 use Rattle.rdf_model.specs.Terms.{Text}
 use Rattle.ntriples_model.specs.Characters.{is_hex, is_iri_char}
-use Rattle.ntriples_model.specs.Terminals.{IsHex, IsUchar, short, long, IsEchar, letter, echar, IsIriEscape, IsStringEscape, hex_number, hex_at, character, uchar_at, fitting, iri_escape_at, letter_or, string_escape_at}
+use Rattle.ntriples_model.specs.Terminals.{IsHex, IsUchar, short, long, IsEchar, letter, echar, echars, meant_by, IsIriEscape, IsStringEscape, hex_number, hex_at, character, uchar_at, fitting, iri_escape_at, letter_or, string_escape_at}
 use Rattle.ntriples_model.proofs.Bodies.{FindsEscapes, is_same}
 
 pub both : (a b : Bool) → (a && b) ≡ true → (a ≡ true) × (b ≡ true)
@@ -52,25 +56,29 @@ character_some size (Some d) c s h =
       | false ↦ λ e h. cc
     ] refl h
 
-uchar_found : (bs : List ℕ) (c size : ℕ) → uchar_at bs ≡ Some (c, size) → IsUchar (92 ∷ take size bs) c
+uchar_found : (bs : List ℕ) (c size : ℕ) → uchar_at bs ≡ Some (c, size) → IsUchar (92 ∷ take size bs) c × (size ≤ length bs)
 uchar_found [] c size h = cc
 uchar_found (b ∷ bs) c size h =
-    elim (b == 117) as (λ e. (b == 117) ≡ e → cond {A = Option (ℕ × ℕ)} e (character 5 (hex_at 4 bs)) (cond {A = Option (ℕ × ℕ)} (b == 85) (character 9 (hex_at 8 bs)) None) ≡ Some (c, size) → IsUchar (92 ∷ take size (b ∷ bs)) c) [
+    elim (b == 117) as (λ e. (b == 117) ≡ e → cond {A = Option (ℕ × ℕ)} e (character 5 (hex_at 4 bs)) (cond {A = Option (ℕ × ℕ)} (b == 85) (character 9 (hex_at 8 bs)) None) ≡ Some (c, size) → IsUchar (92 ∷ take size (b ∷ bs)) c × (size ≤ length (b ∷ bs))) [
       | true ↦ λ e h.
           let p = character_some 5 (hex_at 4 bs) c size h in
-          let x = hex_found 4 bs c p.0 in
-          subst (λ (n : ℕ). IsUchar (92 ∷ take n (b ∷ bs)) c) p.2
-          (subst (λ (n : ℕ). IsUchar (92 ∷ n ∷ take 4 bs) c) (sym (is_same b 117 e))
-          (subst (λ (n : ℕ). IsUchar (92 ∷ 117 ∷ take 4 bs) n) x.1
-          (short (take 4 bs) x.0 (subst (λ (n : ℕ). scalar n ≡ true) (sym x.1) p.1))))
-      | false ↦ λ e h. elim (b == 85) as (λ e. (b == 85) ≡ e → cond {A = Option (ℕ × ℕ)} e (character 9 (hex_at 8 bs)) None ≡ Some (c, size) → IsUchar (92 ∷ take size (b ∷ bs)) c) [
+          let x = hex_found 4 bs c p.0 in (
+            subst (λ (n : ℕ). IsUchar (92 ∷ take n (b ∷ bs)) c) p.2
+                (subst (λ (n : ℕ). IsUchar (92 ∷ n ∷ take 4 bs) c) (sym (is_same b 117 e))
+                (subst (λ (n : ℕ). IsUchar (92 ∷ 117 ∷ take 4 bs) n) x.1
+                (short (take 4 bs) x.0 (subst (λ (n : ℕ). scalar n ≡ true) (sym x.1) p.1)))),
+            omega (arith, p.2, x.0.count_is, length-take 4 bs),
+          )
+      | false ↦ λ e h. elim (b == 85) as (λ e. (b == 85) ≡ e → cond {A = Option (ℕ × ℕ)} e (character 9 (hex_at 8 bs)) None ≡ Some (c, size) → IsUchar (92 ∷ take size (b ∷ bs)) c × (size ≤ length (b ∷ bs))) [
         | true ↦ λ e h.
             let p = character_some 9 (hex_at 8 bs) c size h in
-            let x = hex_found 8 bs c p.0 in
-            subst (λ (n : ℕ). IsUchar (92 ∷ take n (b ∷ bs)) c) p.2
-            (subst (λ (n : ℕ). IsUchar (92 ∷ n ∷ take 8 bs) c) (sym (is_same b 85 e))
-            (subst (λ (n : ℕ). IsUchar (92 ∷ 85 ∷ take 8 bs) n) x.1
-            (long (take 8 bs) x.0 (subst (λ (n : ℕ). scalar n ≡ true) (sym x.1) p.1))))
+            let x = hex_found 8 bs c p.0 in (
+              subst (λ (n : ℕ). IsUchar (92 ∷ take n (b ∷ bs)) c) p.2
+                  (subst (λ (n : ℕ). IsUchar (92 ∷ n ∷ take 8 bs) c) (sym (is_same b 85 e))
+                  (subst (λ (n : ℕ). IsUchar (92 ∷ 85 ∷ take 8 bs) n) x.1
+                  (long (take 8 bs) x.0 (subst (λ (n : ℕ). scalar n ≡ true) (sym x.1) p.1)))),
+              omega (arith, p.2, x.0.count_is, length-take 8 bs),
+            )
         | false ↦ λ e h. cc
       ] refl h
     ] refl h
@@ -103,11 +111,12 @@ fitting_some fits (Some e) c size h =
       | false ↦ λ t h. cc
     ] refl h
 
-iri_found : (bs : List ℕ) (c size : ℕ) → iri_escape_at bs ≡ Some (c, size) → IsIriEscape (92 ∷ take size bs) c
+iri_found : (bs : List ℕ) (c size : ℕ) → iri_escape_at bs ≡ Some (c, size) → IsIriEscape (92 ∷ take size bs) c × (size ≤ length bs)
 unfolding iri_escape_at
 iri_found bs c size h =
     let p = fitting_some is_iri_char (uchar_at bs) c size h in
-    record { uchar = uchar_found bs c size p.0; fits = p.1 }
+    let u = uchar_found bs c size p.0 in
+    (record { uchar = u.0; fits = p.1 }, u.1)
 
 iri_only : (escape : Text) (c : ℕ) → IsIriEscape escape c → (e : Text) × (escape ≡ 92 ∷ e) × ((rest : List ℕ) → iri_escape_at (e ++ rest) ≡ Some (c, length e))
 unfolding iri_escape_at
@@ -118,13 +127,13 @@ iri_only escape c is =
 pub iri_escapes : FindsEscapes IsIriEscape iri_escape_at
 iri_escapes = record { found = iri_found; only = iri_only }
 
-letter_or_some : (b : ℕ) (bs : List ℕ) (o : Option ℕ) → echar b ≡ o → (c size : ℕ) → letter_or o (uchar_at (b ∷ bs)) ≡ Some (c, size) → IsStringEscape (92 ∷ take size (b ∷ bs)) c
-letter_or_some b bs None is c size h = inr (uchar_found (b ∷ bs) c size h)
+letter_or_some : (b : ℕ) (bs : List ℕ) (o : Option ℕ) → echar b ≡ o → (c size : ℕ) → letter_or o (uchar_at (b ∷ bs)) ≡ Some (c, size) → IsStringEscape (92 ∷ take size (b ∷ bs)) c × (size ≤ length (b ∷ bs))
+letter_or_some b bs None is c size h = let u = uchar_found (b ∷ bs) c size h in (inr u.0, u.1)
 letter_or_some b bs (Some d) is c size h =
     let pair : (let q : ℕ × ℕ = (d, 1) in q) ≡ (c, size) = cc in
-    subst (λ (q : ℕ × ℕ). IsStringEscape (92 ∷ take q.1 (b ∷ bs)) q.0) pair (inl (letter b d is))
+    subst (λ (q : ℕ × ℕ). IsStringEscape (92 ∷ take q.1 (b ∷ bs)) q.0 × (q.1 ≤ length (b ∷ bs))) pair (inl (letter b d is), omega arith)
 
-string_found : (bs : List ℕ) (c size : ℕ) → string_escape_at bs ≡ Some (c, size) → IsStringEscape (92 ∷ take size bs) c
+string_found : (bs : List ℕ) (c size : ℕ) → string_escape_at bs ≡ Some (c, size) → IsStringEscape (92 ∷ take size bs) c × (size ≤ length bs)
 unfolding string_escape_at
 string_found [] c size h = cc
 string_found (b ∷ bs) c size h = letter_or_some b bs (echar b) refl c size h
@@ -150,3 +159,64 @@ string_only escape c (inr is) = parts (string_uchar_only escape c is)
 
 pub string_escapes : FindsEscapes IsStringEscape string_escape_at
 string_escapes = record { found = string_found; only = string_only }
+
+-- What an escape is made of
+
+-- an escape is text, and stands for a character that takes no more bytes
+pub record EscapeFacts (escape : Text) (c : ℕ) : Type 0 where
+  pub utf8 : IsUtf8 escape
+  pub ascii : AllByRecursion (λ b. b < 128) escape
+  pub character : IsScalar c
+  pub short : length (encode_utf8 c) ≤ length escape
+
+pub ascii_utf8 : (bs : List ℕ) → AllByRecursion (λ b. b < 128) bs → IsUtf8 bs
+ascii_utf8 [] h = IsUtf8-nil
+ascii_utf8 (b ∷ bs) h =
+    let first : b < 128 = h.0 in
+    IsUtf8-append (b ∷ []) bs (subst IsUtf8 (encode_ascii b first) (IsUtf8-encode b (low_scalar b (omega arith)))) (ascii_utf8 bs h.1)
+
+hex_ascii : (d : ℕ) → is_hex d ≡ true → d < 128
+unfolding is_hex
+hex_ascii d h = grind (arith, nat_tests)
+
+all_ascii : (ds : List ℕ) → AllByRecursion (λ d. is_hex d ≡ true) ds → AllByRecursion (λ b. b < 128) ds
+all_ascii [] h = tt
+all_ascii (d ∷ ds) h = (hex_ascii d h.0, all_ascii ds h.1)
+
+at_most_four : (c : ℕ) → length (encode_utf8 c) ≤ 4
+at_most_four c = omega (arith, length-encode c, (len_utf8_bounds c).1)
+
+pub uchar_facts : (escape : Text) (c : ℕ) → IsUchar escape c → EscapeFacts escape c
+uchar_facts escape c (short digits is fits) =
+    let ascii : AllByRecursion (λ b. b < 128) (92 ∷ 117 ∷ digits) = (omega arith, (omega arith, all_ascii digits is.each)) in
+    record { utf8 = ascii_utf8 _ ascii; ascii = ascii; character = fits; short = omega (arith, is.count_is, at_most_four (hex_number digits)) }
+uchar_facts escape c (long digits is fits) =
+    let ascii : AllByRecursion (λ b. b < 128) (92 ∷ 85 ∷ digits) = (omega arith, (omega arith, all_ascii digits is.each)) in
+    record { utf8 = ascii_utf8 _ ascii; ascii = ascii; character = fits; short = omega (arith, is.count_is, at_most_four (hex_number digits)) }
+
+meant_facts : (es : List (ℕ × ℕ)) (b c : ℕ) → AllByRecursion (λ (e : ℕ × ℕ). (e.0 < 128) × (e.1 < 128)) es → meant_by es b ≡ Some c → (b < 128) × (c < 128)
+meant_facts [] b c all h = cc
+meant_facts (e ∷ es) b c all h =
+    elim (b == e.0) as (λ t. (b == e.0) ≡ t → cond {A = Option ℕ} t (Some e.1) (meant_by es b) ≡ Some c → (b < 128) × (c < 128)) [
+      | true ↦ λ t h.
+          let here = all.0 in
+          let same : e.1 ≡ c = cc in
+          let first = is_same b e.0 t in
+          (omega arith, omega arith)
+      | false ↦ λ t h. meant_facts es b c all.1 h
+    ] refl h
+
+echar_facts : (escape : Text) (c : ℕ) → IsEchar escape c → EscapeFacts escape c
+unfolding echar
+echar_facts escape c (letter b d is) =
+    let small = meant_facts echars b d (grind arith) is in
+    let ascii : AllByRecursion (λ b. b < 128) (92 ∷ b ∷ []) = (omega arith, (small.0, tt)) in
+    let code : d < 128 = small.1 in
+    record { utf8 = ascii_utf8 _ ascii; ascii = ascii; character = low_scalar d (omega arith); short = omega (arith, ap length (encode_ascii d code)) }
+
+pub iri_facts : (escape : Text) (c : ℕ) → IsIriEscape escape c → EscapeFacts escape c
+iri_facts escape c is = uchar_facts escape c is.uchar
+
+pub string_facts : (escape : Text) (c : ℕ) → IsStringEscape escape c → EscapeFacts escape c
+string_facts escape c (inl is) = echar_facts escape c is
+string_facts escape c (inr is) = uchar_facts escape c is

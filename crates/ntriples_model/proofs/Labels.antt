@@ -63,7 +63,7 @@ stop_before : (xs : List ℕ) (c : ℕ) (ys : List ℕ) → stop_then (xs ++ c �
 stop_before [] c ys = refl
 stop_before (x ∷ xs) c ys = refl
 
-dotted_only : (inner : List ℕ) (last : ℕ) (after : List ℕ) → AllByRecursion (λ c. (is_pn_chars c || c == 46) ≡ true) inner → is_pn_chars last ≡ true
+pub dotted_only : (inner : List ℕ) (last : ℕ) (after : List ℕ) → AllByRecursion (λ c. (is_pn_chars c || c == 46) ≡ true) inner → is_pn_chars last ≡ true
     → label_rest (inner ++ last ∷ after) ≡ inner ++ last ∷ label_rest after
 unfolding label_rest
 dotted_only [] last after each ends = rw ends refl
@@ -156,3 +156,13 @@ label_only terminal text after is =
 
 pub labels : FindsLongest IsBlankNodeLabel label_at
 labels = longest_and_whole IsBlankNodeLabel label_at label_found label_only
+
+-- a label is made of characters
+pub label_scalars : (cs : List ℕ) → all_scalars cs ≡ true → all_scalars (label_chars cs) ≡ true
+unfolding label_chars
+label_scalars [] h = refl
+label_scalars (c ∷ cs) h =
+    elim (is_label_start c) as (λ e. all_scalars (cond {A = List ℕ} e (c ∷ label_rest cs) []) ≡ true) [
+      | true ↦ let inner = rest_found cs in scalars_front (c ∷ label_rest cs) inner.behind (ap (λ (z : List ℕ). all_scalars (c ∷ z)) (sym inner.splits) ∙ h)
+      | false ↦ refl
+    ]

@@ -105,7 +105,7 @@ absolute_only text h = ap is_absolute h.text_is ∙ rw (h.begins) (scheme_only h
 
 -- IRIs
 
-iri_parts : Parts is_iri_char 62
+pub iri_parts : Parts is_iri_char 62
 unfolding is_iri_char
 iri_parts = record { close_ends = refl; backslash_escapes = refl; apart = refl }
 
@@ -146,7 +146,7 @@ iris = exactly IsIriRef iri_at iri_found iri_only
 
 -- Strings
 
-string_parts : Parts is_string_char 34
+pub string_parts : Parts is_string_char 34
 unfolding is_string_char
 string_parts = record { close_ends = refl; backslash_escapes = refl; apart = refl }
 

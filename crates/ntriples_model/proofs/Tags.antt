@@ -1,7 +1,9 @@
 -- Language tags: the function finds the longest tag by the productions.
-use Rattle.std.proofs.Common.{◌≡◌, ◌∙◌, ℕ, ◌≤◌, Bool, true, false, cond, ◌&&◌, List, [], ◌∷◌, ◌++◌, map, length, drop, refl, sym, ap, subst, arith, length-append, Option, Some, None}
+use Rattle.std.proofs.Common.{◌≡◌, ◌∙◌, ◌<◌, ℕ, ◌≤◌, Bool, true, false, cond, ◌&&◌, List, [], ◌∷◌, ◌++◌, map, length, drop, refl, sym, ap, subst, arith, length-append, Option, Some, None}
 use Rattle.std.specs.Prelude.{◌==◌, slice_index}
 use Rattle.std.specs.Char.{to_ascii_lowercase}
+use Rattle.std.specs.List.{AllByRecursion}
+use Rattle.std.proofs.lemmas.Bool.Decides.{nat_tests}
 use Rattle.std.proofs.lemmas.List.{append-nil, map-append, length-drop}
 use Rattle.std.proofs.Math.Seq.{drop-append_seam, drop-append-add, drop-nil}
 use Rattle.rdf_model.specs.Terms.{Text}
@@ -149,3 +151,34 @@ tag_only terminal text after is =
 
 pub tags : FindsLongest IsLangTag tag_at
 tags = longest_and_whole IsLangTag tag_at tag_found tag_only
+
+-- A tag is ASCII
+
+letter_ascii : (c : ℕ) → is_letter c ≡ true → c < 128
+unfolding is_letter
+letter_ascii c h = grind (arith, nat_tests)
+
+part_ascii : (c : ℕ) → is_letter_or_digit c ≡ true → c < 128
+unfolding is_letter_or_digit
+part_ascii c h = grind (arith, nat_tests)
+
+rest_ascii : (fits : ℕ → Bool) → ((c : ℕ) → fits c ≡ true → c < 128) → (cs : Text) → AllByRecursion (λ b. b < 128) (tag_rest fits cs)
+unfolding tag_rest
+rest_ascii fits small [] = tt
+rest_ascii fits small (c ∷ cs) =
+    elim (fits c) as (λ e. fits c ≡ e → AllByRecursion (λ b. b < 128) (cond {A = Text} e (c ∷ tag_rest fits cs) (cond {A = Text} (c == 45 && is_letter_or_digit (slice_index cs 0)) (c ∷ tag_rest is_letter_or_digit cs) []))) [
+      | true ↦ λ e. (small c e, rest_ascii fits small cs)
+      | false ↦ λ e. elim (c == 45 && is_letter_or_digit (slice_index cs 0)) as (λ t. (c == 45 && is_letter_or_digit (slice_index cs 0)) ≡ t → AllByRecursion (λ b. b < 128) (cond {A = Text} t (c ∷ tag_rest is_letter_or_digit cs) [])) [
+        | true ↦ λ t. let dash = is_same c 45 (both (c == 45) (is_letter_or_digit (slice_index cs 0)) t).0 in (omega arith, rest_ascii is_letter_or_digit part_ascii cs)
+        | false ↦ λ t. tt
+      ] refl
+    ] refl
+
+pub tag_ascii : (cs : Text) → AllByRecursion (λ b. b < 128) (tag_bytes cs)
+unfolding tag_bytes
+tag_ascii [] = tt
+tag_ascii (c ∷ cs) =
+    elim (is_letter c) as (λ e. is_letter c ≡ e → AllByRecursion (λ b. b < 128) (cond {A = Text} e (c ∷ tag_rest is_letter cs) [])) [
+      | true ↦ λ e. (letter_ascii c e, rest_ascii is_letter letter_ascii cs)
+      | false ↦ λ e. tt
+    ] refl

@@ -1,0 +1,134 @@
+//! The productions of a line (`ntriples_model`'s `specs/Line.antt`), from its front.
+ghost use Rattle.std.specs.Prelude.{◌≡◌, ◌+◌, ◌<◌, ◌≤◌, length, slice_index, sum_by, None, Some, MatchOption};
+ghost use Rattle.ntriples_model.specs.Line as line;
+ghost use Rattle.ntriples_model.specs.Line.{subject_at, predicate_at, literal_at, object_at, triple_at};
+ghost use Rattle.ntriples.specs.Places.{ReadsTerm, triple_at_places, AreWithin};
+
+use crate::place::{Place, Places};
+use crate::terminal::{iri, label, string, tag};
+use rdf_term::Scratch;
+
+fn is_blank(b: u8) -> bool
+    ensures { result ≡ line.is_blank b }
+{
+    b == b' ' || b == b'\t'
+}
+
+/// What stands behind the blanks.
+pub(crate) fn after_blanks(bytes: &[u8]) -> &[u8]
+    ensures rest { result.now ≡ line.after_blanks bytes.now }
+    ensures within { length result.now ≤ length bytes.now }
+{
+    for (i, b) in bytes.iter().enumerate() {
+        if !is_blank(*b) {
+            return &bytes[i..];
+        }
+    }
+    &bytes[bytes.len()..]
+}
+
+// The byte at place `i`, or 0 where there is none.
+fn byte_at(bytes: &[u8], i: usize) -> u8
+    ensures value { result ≡ slice_index bytes.now i }
+    ensures within { 0 < result → i < length bytes.now }
+{
+    bytes.get(i).copied().unwrap_or(0)
+}
+
+/// Whether there is nothing, or a comment.
+pub(crate) fn is_note(bytes: &[u8]) -> bool
+    ensures { result ≡ line.is_note bytes.now }
+{
+    matches!(bytes, [] | [b'#', ..])
+}
+
+/// Whether a full stop is next, and then nothing or a comment.
+#[tactic(auto, unfolding(ntriples_model::specs::Line::is_end))]
+fn is_end(bytes: &[u8]) -> bool
+    ensures { result ≡ line.is_end bytes.now }
+{
+    match after_blanks(bytes) {
+        [b'.', behind @ ..] => is_note(after_blanks(behind)),
+        _ => false,
+    }
+}
+
+/// subject ::= IRIREF | BLANK_NODE_LABEL
+fn subject<'l>(bytes: &'l [u8], scope: &str, to: &mut Scratch) -> Option<(Place, &'l [u8])>
+    requires count { length to.old ≤ 6 }
+    requires room { sum_by length to.old + length bytes.now + 64 ≤ 2098176 }
+    requires scope { length scope.now ≤ 64 }
+    ensures { MatchOption result ((subject_at scope.now bytes.now ≡ None) × (to.new ≡ to.old))
+        (λ r. ReadsTerm (subject_at scope.now bytes.now) bytes.now to.old to.new r.0 r.1.now) }
+{
+    if let Some((text, rest)) = iri(bytes, to) {
+        return Some((Place::Iri(text), rest));
+    }
+    let (label, rest) = label(bytes, scope, to)?;
+    Some((Place::Blank(label), rest))
+}
+
+/// predicate ::= IRIREF
+fn predicate<'l>(bytes: &'l [u8], to: &mut Scratch) -> Option<(Place, &'l [u8])>
+    requires count { length to.old ≤ 6 }
+    requires room { sum_by length to.old + length bytes.now ≤ 2098176 }
+    ensures { MatchOption result (predicate_at bytes.now ≡ None)
+        (λ r. ReadsTerm (predicate_at bytes.now) bytes.now to.old to.new r.0 r.1.now) }
+{
+    let (text, rest) = iri(bytes, to)?;
+    Some((Place::Iri(text), rest))
+}
+
+/// literal ::= STRING_LITERAL_QUOTE ('^^' IRIREF | LANGTAG)?
+fn literal<'l>(bytes: &'l [u8], to: &mut Scratch) -> Option<(Place, &'l [u8])>
+    requires count { length to.old ≤ 6 }
+    requires room { sum_by length to.old + length bytes.now ≤ 2098176 }
+    ensures { MatchOption result (literal_at bytes.now ≡ None)
+        (λ r. ReadsTerm (literal_at bytes.now) bytes.now to.old to.new r.0 r.1.now) }
+{
+    let (form, rest) = string(bytes, to)?;
+    let behind = after_blanks(rest);
+    if byte_at(behind, 0) == b'^' {
+        if byte_at(behind, 1) != b'^' {
+            return None;
+        }
+        let (datatype, rest) = iri(after_blanks(&behind[2..]), to)?;
+        return Some((Place::Typed(form, datatype), rest));
+    }
+    if byte_at(behind, 0) == b'@' {
+        let (tag, rest) = tag(behind, to)?;
+        return Some((Place::Tagged(form, tag), rest));
+    }
+    Some((Place::Plain(form), rest))
+}
+
+/// object ::= IRIREF | BLANK_NODE_LABEL | literal
+fn object<'l>(bytes: &'l [u8], scope: &str, to: &mut Scratch) -> Option<(Place, &'l [u8])>
+    requires count { length to.old ≤ 6 }
+    requires room { sum_by length to.old + length bytes.now + 64 ≤ 2098176 }
+    requires scope { length scope.now ≤ 64 }
+    ensures { MatchOption result (object_at scope.now bytes.now ≡ None)
+        (λ r. ReadsTerm (object_at scope.now bytes.now) bytes.now to.old to.new r.0 r.1.now) }
+{
+    if let Some(node) = subject(bytes, scope, to) {
+        return Some(node);
+    }
+    literal(bytes, to)
+}
+
+/// A triple, of bytes that begin with no blank.
+pub(crate) fn triple(bytes: &[u8], scope: &str, to: &mut Scratch) -> Option<Places>
+    requires empty { length to.old ≡ 0 }
+    requires bytes { length bytes.now ≤ 1048576 }
+    requires scope { length scope.now ≤ 64 }
+    ensures { MatchOption result (triple_at scope.now bytes.now ≡ None)
+        (λ t. (triple_at scope.now bytes.now ≡ Some (triple_at_places to.new t)) × AreWithin (length to.new) t) }
+{
+    let (s, rest) = subject(bytes, scope, to)?;
+    let (p, rest) = predicate(after_blanks(rest), to)?;
+    let (o, rest) = object(after_blanks(rest), scope, to)?;
+    if !is_end(rest) {
+        return None;
+    }
+    Some(Places { s, p, o })
+}

@@ -1,0 +1,7 @@
+//! The rows of one depth: different nodes under numbers that the table picks, each with a count.
+#![tactic(auto)]
+
+mod count;
+mod table;
+
+pub use table::Table;

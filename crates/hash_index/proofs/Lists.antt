@@ -3,31 +3,17 @@ use Rattle.std.proofs.Common.{◌≡◌, ◌≢◌, ◌==◌, ◌⊎◌, ℕ, �
 use Rattle.std.proofs.lemmas.Bool.{ne_eqb, cases_eq}
 use Rattle.std.proofs.lemmas.List.Sums.{sum_by-cons, sum_by_push}
 use Rattle.std.specs.Ordering.{nat_cmp, eq_by_cmp, is_eq}
-use Rattle.std.specs.Cmp.{nat_cmp_total, tied_itself}
+use Rattle.std.specs.Cmp.{nat_cmp_total}
+use Rattle.hypertrie_model.specs.MapLaws as laws
 use Rattle.std.specs.FinMap as map
 use Rattle.std.specs.FinMap.{FinMap, find, nat_cmp-IsAntisymmetric}
-use Rattle.std.specs.declared.cmp.Ordering.{Ordering}
-use Rattle.std.specs.declared.cmp.Ordering.TheVariants.{Less, Equal, Greater}
 use Rattle.std.specs.BTreeMap as tree
 use Rattle.std.specs.Map.{lookup}
 use Rattle.smallvec.specs.SmallVec.{SmallVec}
 use Rattle.hash_index.specs.Index.{Lists, items_of, numbers_at, with_hash, listed, hashes_of, times, one_at, IsListedOnce, AreFull, IsSound, TakesOne, Changes}
 
--- whether two keys tie
-abbrev same_key : ℕ → ℕ → Bool
-same_key q k = eq_by_cmp nat_cmp q k
-
-equal_of : (o : Ordering) → is_eq o ≡ true → o ≡ Equal
-equal_of Less e = cc
-equal_of Equal e = refl
-equal_of Greater e = cc
-
-by_key : (P : Bool → Type 0) (q k : ℕ) → (q ≡ k → P true) → (q ≢ k → P false) → P (same_key q k)
-by_key P q k here apart =
-    elim (same_key q k) as (λ b. same_key q k ≡ b → P b) [
-      | true ↦ λ e. here (nat_cmp-IsAntisymmetric q k (equal_of (nat_cmp q k) e))
-      | false ↦ λ e. apart (λ is. let t : true ≡ false = sym (ap is_eq (tied_itself nat_cmp_total k)) ∙ subst (λ z. same_key z k ≡ false) is e in cc)
-    ] refl
+by_key : (P : Bool → Type 0) (q k : ℕ) → (q ≡ k → P true) → (q ≢ k → P false) → P (eq_by_cmp nat_cmp q k)
+by_key = laws.by_key nat_cmp_total nat_cmp-IsAntisymmetric
 
 pub times-cons_same : (n k : ℕ) (ns : List ℕ) → n ≡ k → times k (n ∷ ns) ≡ 1 + times k ns
 times-cons_same n k ns e = sum_by-cons (λ x. cond (x == k) 1 0) n ns ∙ ap (λ b. cond b 1 0 + times k ns) (eq-eqb n k e)
@@ -154,16 +140,16 @@ unit-other : (n k : ℕ) → n ≢ k → ◌≡◌ {A = ℕ} (cond (eqb n k) 1 0
 unit-other n k e = let unit : Bool → ℕ = λ b. cond b 1 0 in ap unit (ne_eqb n k e)
 
 get-insert_here : (m : FinMap nat_cmp ℕ) (k v q : ℕ) → q ≡ k → map.get (map.insert m k v) q ≡ Some v
-get-insert_here m k v q is = map.get-insert nat_cmp_total m k v q ∙ by_key (λ b. cond b (Some v) (map.get m q) ≡ Some v) q k (λ _. refl) (λ ne. absurd (ne is))
+get-insert_here m k v q is = ap (map.get (map.insert m k v)) is ∙ laws.get-insert_here nat_cmp_total nat_cmp-IsAntisymmetric m k v
 
 get-insert_other : (m : FinMap nat_cmp ℕ) (k v q : ℕ) → q ≢ k → map.get (map.insert m k v) q ≡ map.get m q
-get-insert_other m k v q ne = map.get-insert nat_cmp_total m k v q ∙ by_key (λ b. cond b (Some v) (map.get m q) ≡ map.get m q) q k (λ is. absurd (ne is)) (λ _. refl)
+get-insert_other = laws.get-insert_other nat_cmp_total nat_cmp-IsAntisymmetric
 
 get-remove_here : (m : FinMap nat_cmp ℕ) (k q : ℕ) → q ≡ k → map.get (map.remove m k) q ≡ None
-get-remove_here m k q is = map.get-remove nat_cmp_total m k q ∙ by_key (λ b. cond b None (map.get m q) ≡ None) q k (λ _. refl) (λ ne. absurd (ne is))
+get-remove_here m k q is = ap (map.get (map.remove m k)) is ∙ laws.get-remove_here nat_cmp_total nat_cmp-IsAntisymmetric m k
 
 get-remove_other : (m : FinMap nat_cmp ℕ) (k q : ℕ) → q ≢ k → map.get (map.remove m k) q ≡ map.get m q
-get-remove_other m k q ne = map.get-remove nat_cmp_total m k q ∙ by_key (λ b. cond b None (map.get m q) ≡ map.get m q) q k (λ is. absurd (ne is)) (λ _. refl)
+get-remove_other = laws.get-remove_other nat_cmp_total nat_cmp-IsAntisymmetric
 
 module _ (old new : Lists) (hashes : FinMap nat_cmp ℕ) (hash number : ℕ) (is : hashes_of old ≡ hashes) (once : IsListedOnce (hashes_of old) old) where
   before : IsListedOnce hashes old

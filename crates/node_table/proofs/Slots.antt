@@ -4,30 +4,16 @@ use Rattle.std.proofs.lemmas.Bool.{cases_eq}
 use Rattle.std.proofs.lemmas.List.Sums.{sum_by-cons}
 use Rattle.std.specs.Option.{option_map}
 use Rattle.std.specs.Ordering.{nat_cmp, eq_by_cmp, is_eq}
-use Rattle.std.specs.Cmp.{nat_cmp_total, tied_itself}
+use Rattle.std.specs.Cmp.{nat_cmp_total}
+use Rattle.hypertrie_model.specs.MapLaws as laws
 use Rattle.std.specs.FinMap as map
 use Rattle.std.specs.FinMap.{FinMap, find, nat_cmp-IsAntisymmetric}
-use Rattle.std.specs.declared.cmp.Ordering.{Ordering}
-use Rattle.std.specs.declared.cmp.Ordering.TheVariants.{Less, Equal, Greater}
 use Rattle.slab.specs.Slab.{Slab, Updates, entries_from}
 use Rattle.node_table.specs.Table.{Row, Table, row_at, with_row, without_row, empty_table, HasNoNode, HasDifferentNodes}
 use Rattle.node_table.specs.Slots.{rows_of, table_of, IsSound}
 
--- whether two keys tie
-abbrev same_key : ℕ → ℕ → Bool
-same_key q k = eq_by_cmp nat_cmp q k
-
-equal_of : (o : Ordering) → is_eq o ≡ true → o ≡ Equal
-equal_of Less e = cc
-equal_of Equal e = refl
-equal_of Greater e = cc
-
-by_key : (P : Bool → Type 0) (q k : ℕ) → (q ≡ k → P true) → (q ≢ k → P false) → P (same_key q k)
-by_key P q k here apart =
-    elim (same_key q k) as (λ b. same_key q k ≡ b → P b) [
-      | true ↦ λ e. here (nat_cmp-IsAntisymmetric q k (equal_of (nat_cmp q k) e))
-      | false ↦ λ e. apart (λ is. let t : true ≡ false = sym (ap is_eq (tied_itself nat_cmp_total k)) ∙ subst (λ z. same_key z k ≡ false) is e in cc)
-    ] refl
+by_key : (P : Bool → Type 0) (q k : ℕ) → (q ≡ k → P true) → (q ≢ k → P false) → P (eq_by_cmp nat_cmp q k)
+by_key = laws.by_key nat_cmp_total nat_cmp-IsAntisymmetric
 
 module _ {X : Type 0} where
   find_below : (at q : ℕ) (slots : List (Option X)) → q < at → find nat_cmp q (entries_from at slots) ≡ None
@@ -74,19 +60,16 @@ module _ {X : Type 0} where
   unfolding rows_of
   rows_of-empty = refl
 
-  same_rows : (m n : FinMap nat_cmp X) → ((q : ℕ) → map.get m q ≡ map.get n q) → m ≡ n
-  same_rows m n h = map.same_map nat_cmp_total nat_cmp-IsAntisymmetric m n h
-
   rows_of-insert : (old new : Slab X) (k : ℕ) (v : X) → Updates old new k (Some v) → rows_of new.slots ≡ map.insert (rows_of old.slots) k v
   rows_of-insert old new k v up =
-      same_rows _ _ (λ q. get-rows_of new.slots q ∙ by_key (λ b. get_or new.slots q None ≡ cond b (Some v) (map.get (rows_of old.slots) q)) q k
+      map.same_map nat_cmp_total nat_cmp-IsAntisymmetric _ _ (λ q. get-rows_of new.slots q ∙ by_key (λ b. get_or new.slots q None ≡ cond b (Some v) (map.get (rows_of old.slots) q)) q k
         (λ same. ap (λ z. get_or new.slots z None) same ∙ up.changed)
         (λ ne. up.others q ne ∙ sym (get-rows_of old.slots q))
       ∙ sym (map.get-insert nat_cmp_total (rows_of old.slots) k v q))
 
   rows_of-remove : (old new : Slab X) (k : ℕ) → Updates old new k None → rows_of new.slots ≡ map.remove (rows_of old.slots) k
   rows_of-remove old new k up =
-      same_rows _ _ (λ q. get-rows_of new.slots q ∙ by_key (λ b. get_or new.slots q None ≡ cond b None (map.get (rows_of old.slots) q)) q k
+      map.same_map nat_cmp_total nat_cmp-IsAntisymmetric _ _ (λ q. get-rows_of new.slots q ∙ by_key (λ b. get_or new.slots q None ≡ cond b None (map.get (rows_of old.slots) q)) q k
         (λ same. ap (λ z. get_or new.slots z None) same ∙ up.changed)
         (λ ne. up.others q ne ∙ sym (get-rows_of old.slots q))
       ∙ sym (map.get-remove nat_cmp_total (rows_of old.slots) k q))

@@ -3,5 +3,7 @@
 
 mod count;
 mod table;
+#[cfg(test)]
+mod tests;
 
 pub use table::Table;

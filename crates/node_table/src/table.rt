@@ -147,16 +147,24 @@ impl<N: Same + Drop> Table<N> {
         Ok(self.rows.insert_reserved(Row { node, count, hash }))
     }
 
+    fn set_count(&mut self, row: usize, count: u128)
+        requires { IsSome (row_at self.old row) }
+        ensures { IfSome (row_at self.old row) (λ r. self.new ≡ with_row self.old row (record r { count = count })) }
+    {
+        match self.rows.get_mut(row) {
+            Some(row) => row.count = Count::of(count),
+            None => unreachable!(),
+        }
+    }
+
     /// One edge or hold more leads to the row.
     pub fn bump(&mut self, row: usize)
         requires there { IsSome (row_at self.old row) }
         requires room { IfSome (row_at self.old row) (λ r. r.count < 2 ^ 100) }
         ensures { IfSome (row_at self.old row) (λ r. self.new ≡ with_row self.old row (record r { count = r.count + 1 })) }
     {
-        match self.rows.get_mut(row) {
-            Some(row) => row.count = Count::of(row.count.get() + 1),
-            None => unreachable!(),
-        }
+        let count = self.count(row);
+        self.set_count(row, count + 1);
     }
 
     /// One edge or hold less leads to the row.
@@ -165,10 +173,8 @@ impl<N: Same + Drop> Table<N> {
         requires more { IfSome (row_at self.old row) (λ r. 1 < r.count) }
         ensures { IfSome (row_at self.old row) (λ r. self.new ≡ with_row self.old row (record r { count = r.count - 1 })) }
     {
-        match self.rows.get_mut(row) {
-            Some(row) => row.count = Count::of(row.count.get() - 1),
-            None => unreachable!(),
-        }
+        let count = self.count(row);
+        self.set_count(row, count - 1);
     }
 
     /// Takes the row out, and gives its node.

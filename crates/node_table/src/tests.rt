@@ -1,3 +1,6 @@
+ghost use Rattle.std.specs.Prelude.{◌≡◌};
+ghost use Rattle.node_table.specs.Table.{empty_table};
+
 use super::*;
 use trie_depth::{Memory, Same};
 
@@ -33,6 +36,37 @@ fn counts(rt: HostRuntime) -> Result<(), (Name, Memory)> {
     let more = table.count(row);
     table.lower(row);
     assert_eq!(rt; (more, table.count(row)), (2, 1));
+    Ok(())
+}
+
+/// Adds rows with the nodes below `rows`, five under each hash. A row that is refused is added again.
+fn fill(table: &mut Table<Name>, rows: u32) -> Result<bool, (Name, Memory)>
+    requires { table.old ≡ empty_table }
+{
+    let mut refused = false;
+    for n in 0..rows {
+        let hash = u64::from(n / 5);
+        match table.add(Name(n), hash) {
+            Ok(_) => {}
+            Err((name, Memory)) => {
+                refused = true;
+                table.add(name, hash)?;
+            }
+        }
+    }
+    Ok(refused)
+}
+
+/// It passes whichever allocation is refused.
+#[test]
+fn a_refused_add_is_made_again(rt: HostRuntime) -> Result<(), (Name, Memory)> {
+    let mut table = Table::new(rt.alloc());
+    let _ = fill(&mut table, 40)?;
+    assert_eq!(rt; table.len(), 40);
+    for n in 0..40u32 {
+        let row = table.find_equal(&Name(n), u64::from(n / 5));
+        assert!(rt; row.is_some(), "no row for {n}");
+    }
     Ok(())
 }
 

@@ -1,5 +1,4 @@
 -- Terms of the program as the terms of the definitions.
-use Rattle.std.specs.Prelude.{ℕ, List}
 use Rattle.rdf_model.specs.Terms as model
 use Rattle.rdf_term.specs.declared.term.Kind.{Kind}
 use Rattle.rdf_term.specs.declared.term.Kind.TheVariants as kind

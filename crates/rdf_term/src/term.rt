@@ -1,3 +1,6 @@
+//! Terms and triples (RDF 1.1 Concepts, section 3), owned and lent. Both are seen as the terms of the definitions by
+//! `term_of`, `lent_term` and `triple_of` (`specs/Seen.antt`). The order is by kind, in the order written here, then by
+//! the bytes of the texts; two terms are equal where kinds and texts are.
 ghost use Rattle.std.specs.Prelude.{◌≡◌, ◌↔◌, IsTrue, IfOk};
 ghost use Rattle.rdf_model.specs.Graph.{term_cmp};
 ghost use Rattle.rdf_term.specs.Seen.{kind_of, term_of, lent_kind, lent_term};
@@ -10,10 +13,13 @@ use trie_depth::Memory;
 /// What a literal has beside its lexical form.
 #[derive(Clone, Debug, PartialEq, Eq, PartialOrd, Ord, Drop)]
 pub enum Kind {
+    /// The IRI of the datatype.
     Typed(Text),
+    /// The language tag, in lower case.
     Tagged(Text),
 }
 
+/// A term that owns its texts.
 #[derive(Clone, Debug, PartialEq, Eq, PartialOrd, Ord, Drop)]
 pub enum Term {
     Iri(Text),
@@ -21,12 +27,14 @@ pub enum Term {
     Literal(Text, Kind),
 }
 
+/// A lent `Kind`.
 #[derive(Clone, Copy, Debug, PartialEq, Eq, PartialOrd, Ord)]
 pub enum KindRef<'a> {
     Typed(&'a str),
     Tagged(&'a str),
 }
 
+/// A lent `Term`.
 #[derive(Clone, Copy, Debug, PartialEq, Eq, PartialOrd, Ord)]
 pub enum TermRef<'a> {
     Iri(&'a str),
@@ -34,6 +42,7 @@ pub enum TermRef<'a> {
     Literal(&'a str, KindRef<'a>),
 }
 
+/// Subject, predicate and object.
 #[derive(Debug, Drop)]
 pub struct Triple {
     pub s: Term,
@@ -42,6 +51,7 @@ pub struct Triple {
 }
 
 impl<'a> KindRef<'a> {
+    /// An equal kind with texts of its own.
     pub fn own(self, alloc: Global) -> Result<Kind, Memory>
         ensures { IfOk result (λ k. kind_of k ≡ lent_kind self.entry) }
     {
@@ -53,6 +63,7 @@ impl<'a> KindRef<'a> {
 }
 
 impl<'a> TermRef<'a> {
+    /// An equal term with texts of its own.
     pub fn own(self, alloc: Global) -> Result<Term, Memory>
         ensures { IfOk result (λ t. term_of t ≡ lent_term self.entry) }
     {
@@ -68,6 +79,7 @@ impl<'a> TermRef<'a> {
 }
 
 impl Kind {
+    /// The same kind, lent.
     pub fn lent(&self) -> KindRef<'_>
         ensures { lent_kind result ≡ kind_of self.now }
     {
@@ -79,6 +91,7 @@ impl Kind {
 }
 
 impl Term {
+    /// The same term, lent.
     pub fn lent(&self) -> TermRef<'_>
         ensures { lent_term result ≡ term_of self.now }
     {

@@ -160,6 +160,43 @@ module _ {K : Type 0} {R : K → K → Ordering} (o : IsTotalOrder R) (exact : I
       (λ m k u new ind. subst (λ n. n < 2 ^ w) (sym (fold_over-insert bit_xor 0 xor_swaps m (λ q _. f q) k u new)) (xor_lt w (f k) _ (small k) ind))
       (marked s)
 
+-- what f makes of what stands at a key, 0 where nothing does
+abbrev pub part : {K X : Type 0} → (K → X → ℕ) → K → Option X → ℕ
+part f k None = 0
+part f k (Some v) = f k v
+
+module _ {K : Type 0} {R : K → K → Ordering} (o : IsTotalOrder R) (exact : IsAntisymmetric R) where
+  remove_none : {X : Type 0} (m : FinMap R X) (k : K) → map.get m k ≡ None → map.remove m k ≡ m
+  remove_none m k none = same_maps o exact _ _ (λ q. by_key o exact (λ _. map.get (map.remove m k) q ≡ map.get m q) q k
+      (λ is. ap (map.get (map.remove m k)) is ∙ get-remove_here o exact m k ∙ sym none ∙ ap (map.get m) (sym is))
+      (λ ne. get-remove_other o exact m k q ne))
+
+  -- what stands at a key, and the rest
+  pub sum_over-split : {X : Type 0} (m : FinMap R X) (f : K → X → ℕ) (k : K) → sum_over m f ≡ part f k (map.get m k) + sum_over (map.remove m k) f
+  sum_over-split m f k =
+      elim (map.get m k) as (λ r. map.get m k ≡ r → sum_over m f ≡ part f k r + sum_over (map.remove m k) f) [
+        | None ↦ λ e. let same : sum_over m f ≡ sum_over (map.remove m k) f = ap (λ n. sum_over n f) (sym (remove_none m k e)) in omega arith
+        | Some v ↦ λ e. sum_over-remove o exact m f k v e
+      ] refl
+
+  -- maps in which the same stands at each key, as far as f and g see it, have the same sum
+  pub sum_over-alike : {X Y : Type 0} (f : K → X → ℕ) (g : K → Y → ℕ) (m : FinMap R X) (s : FinMap R Y) → ((q : K) → part f q (map.get m q) ≡ part g q (map.get s q)) → sum_over m f ≡ sum_over s g
+  sum_over-alike {X} {Y} f g = map_ind o exact (λ m. (s : FinMap R Y) → ((q : K) → part f q (map.get m q) ≡ part g q (map.get s q)) → sum_over m f ≡ sum_over s g)
+      (λ s same. sum_over-empty o exact f ∙ sym (nothing s (λ q. sym (same q) ∙ ap (part f q) (map.get-empty R q))))
+      (λ m k v none ind s same.
+        let here : f k v ≡ part g k (map.get s k) = sym (ap (part f k) (get-insert_here o exact m k v)) ∙ same k in
+        let rest = ind (map.remove s k) (λ q. by_key o exact (λ _. part f q (map.get m q) ≡ part g q (map.get (map.remove s k) q)) q k
+            (λ is. ap (λ z. part f z (map.get m z)) is ∙ ap (part f k) none ∙ sym (ap (λ z. part g z (map.get (map.remove s k) z)) is ∙ ap (part g k) (get-remove_here o exact s k)))
+            (λ ne. sym (ap (part f q) (get-insert_other o exact m k v q ne)) ∙ same q ∙ sym (ap (part g q) (get-remove_other o exact s k q ne)))) in
+        let new = sum_over-insert o exact m f k v none in
+        let old = sum_over-split s g k in
+        omega arith) where
+    nothing : (s : FinMap R Y) → ((q : K) → part g q (map.get s q) ≡ 0) → sum_over s g ≡ 0
+    nothing s none = elim (dec_lt 0 (sum_over s g)) as (λ _. sum_over s g ≡ 0) [
+        | yes p ↦ let h = sum_over-has o exact g s p in let z : g h.0 h.1 ≡ 0 = sym (ap (part g h.0) h.2) ∙ none h.0 in absurd (omega (arith, h.3))
+        | no p ↦ omega arith
+      ]
+
 is_there : {A : Type 0} (r : Option A) → true ≡ is_some r → (x : A) × (r ≡ Some x)
 is_there None e = absurd (let t : ⊥ = cc in t)
 is_there (Some x) e = (x, refl)

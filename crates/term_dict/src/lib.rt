@@ -1,0 +1,9 @@
+//! Terms and their Ids: a finite map from Ids to terms, one to one.
+#![tactic(auto)]
+
+mod dict;
+mod joined;
+mod place;
+mod places;
+
+pub use dict::Dict;

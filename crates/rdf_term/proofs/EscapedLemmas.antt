@@ -1,7 +1,7 @@
 -- A lexical form, cut at its escapes.
-use Rattle.std.proofs.Common.{◌≡◌, ◌∙◌, ◌<◌, ◌≤◌, ◌+◌, ◌-◌, ℕ, zero, suc, Bool, true, false, cond, not, ◌||◌, length, get_or, List, [], ◌∷◌, ◌++◌, take, drop, refl, sym, ap, subst, arith, append_assoc, length-append, Option, Some, None}
-use Rattle.std.specs.Prelude.{IsUtf8, IsCharBoundary, ◌==◌}
-use Rattle.std.specs.List.{prefix_len, flat_map}
+use Rattle.std.proofs.Common.{◌≡◌, ◌∙◌, ◌<◌, ◌+◌, ℕ, suc, true, false, cond, length, get_or, [], ◌∷◌, ◌++◌, take, drop, refl, sym, ap, subst, arith, Option, Some, None}
+use Rattle.std.specs.Prelude.{IsUtf8, IsCharBoundary}
+use Rattle.std.specs.List.{prefix_len}
 use Rattle.std.proofs.lemmas.Bool.Decides.{nat_tests}
 use Rattle.std.proofs.lemmas.Str.{IsUtf8-drop, IsCharBoundary-after_ascii}
 use Rattle.std.proofs.lemmas.List.{append-nil, length-drop, get_or-drop}
@@ -9,7 +9,8 @@ use Rattle.std.proofs.lemmas.List.Sums.{prefix_len-le-length, prefix_len_stops}
 use Rattle.rdf_model.specs.Terms.{Text}
 use Rattle.rdf_term.specs.declared.escaped.Escapes.{Escapes}
 use Rattle.rdf_term.specs.declared.escaped.Escapes.TheVariants.{Canon, Tsv}
-use Rattle.rdf_term.specs.Escapes.{escape_by, stays, form_text, IsCut}
+use Rattle.rdf_term.specs.Escapes.{escape_by, stays, form_text, IsCut, CutsTo}
+use Rattle.std.specs.Borrow.{Bor}
 
 plain_byte : (escapes : Escapes) (b : ℕ) → stays escapes b ≡ true → escape_by escapes b ≡ b ∷ []
 plain_byte Canon b h = canon b h
@@ -70,10 +71,11 @@ pub cut_is : (escapes : Escapes) (form run behind escape rest : Text) (n first :
 cut_is escapes form run behind escape rest n first is run_is behind_is some first_is escape_is rest_is =
     let all : form_text escapes form ≡ take n form ++ form_text escapes (drop n form) = run_text escapes form ∙ ap (λ (k : ℕ). take k form ++ form_text escapes (drop k form)) (sym is) in
     let tail : form_text escapes (drop n form) ≡ escape ++ form_text escapes rest =
-        ap (form_text escapes) (sym behind_is ∙ first_and_rest behind first some first_is) ∙ ap (λ (z : Text). z ++ form_text escapes (drop 1 behind)) (sym escape_is) ∙ ap (λ (z : Text). escape ++ form_text escapes z) (sym rest_is) in
+    ap (form_text escapes) (sym behind_is ∙ first_and_rest behind first some first_is) ∙ ap (λ (z : Text). z ++ form_text escapes (drop 1 behind)) (sym escape_is) ∙ ap (λ (z : Text). escape ++ form_text escapes z) (sym rest_is) in
     record {
       text = all ∙ ap (λ (z : Text). z ++ form_text escapes (drop n form)) (sym run_is) ∙ ap (λ (z : Text). run ++ z) tail;
-      shorter = omega (arith, ap length rest_is, length-drop 1 behind, ap length behind_is, length-drop n form) }
+      shorter = omega (arith, ap length rest_is, length-drop 1 behind, ap length behind_is, length-drop n form);
+    }
 
 pub no_cut : (escapes : Escapes) (form run behind : Text) (n : ℕ) → n ≡ prefix_len (stays escapes) form → run ≡ take n form → behind ≡ drop n form → length behind ≡ 0 → form_text escapes form ≡ run
 no_cut escapes form run behind n is run_is behind_is none =
@@ -84,3 +86,11 @@ no_cut escapes form run behind n is run_is behind_is none =
     nothing : (z : Text) → length z ≡ 0 → z ≡ []
     nothing [] h = refl
     nothing (x ∷ z) h = absurd (omega arith)
+
+-- what a cut says, whatever is behind the run, and where an escape is
+pub cut_run : (escapes : Escapes) (form : Text) (run : Bor Text) (r : Option (Bor Text × Bor Text)) → CutsTo escapes form run r → (more : Text) × (form_text escapes form ≡ run.now ++ more)
+cut_run escapes form run None h = ([], h ∙ sym (append-nil run.now))
+cut_run escapes form run (Some p) h = (_, h.text)
+
+pub cut_some : (escapes : Escapes) (form : Text) (run : Bor Text) (r : Option (Bor Text × Bor Text)) (escape rest : Bor Text) → CutsTo escapes form run r → r ≡ Some (escape, rest) → IsCut escapes form run.now escape.now rest.now
+cut_some escapes form run r escape rest h is = subst (λ (z : Option (Bor Text × Bor Text)). CutsTo escapes form run z) is h

@@ -18,7 +18,12 @@ use trie_depth::Memory;
 const XSD_STRING: &str = "http://www.w3.org/2001/XMLSchema#string";
 
 /// Puts a text between two others.
-fn put_between<K: Sink>(out: &mut Out<'_, K>, before: &str, text: &str, behind: &str) -> Result<(), Failed>
+fn put_between<K: Sink>(
+    out: &mut Out<'_, K>,
+    before: &str,
+    text: &str,
+    behind: &str,
+) -> Result<(), Failed>
     ensures same_sink { out.new.sink.ghost_name ≡ out.old.sink.ghost_name }
     ensures ok { OnOk result (all_put K.written out.new ≡ append_known (all_put K.written out.old) (before.now ++ text.now ++ behind.now)) }
     ensures err { OnErr result (Begins (K.written out.new.sink.now) (append_known (all_put K.written out.old) (before.now ++ text.now ++ behind.now))) }

@@ -5,3 +5,4 @@ pub mod Labels
 pub mod Quoted
 pub mod SmallInputs
 pub mod Tags
+pub mod TermTexts

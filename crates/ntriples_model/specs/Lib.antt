@@ -1,3 +1,4 @@
 pub mod Characters
 pub mod Laws
+pub mod TermText
 pub mod Terminals

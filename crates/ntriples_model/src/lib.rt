@@ -3,6 +3,7 @@
 #![tactic(auto)]
 
 ghost use Rattle.ntriples_model.specs.Laws.{FindsLongest};
+ghost use Rattle.ntriples_model.specs.TermText.{TextsStand};
 ghost use Rattle.ntriples_model.specs.Terminals.{IsIriRef, IsStringLiteral, IsBlankNodeLabel, IsLangTag, iri_at, string_at, label_at, tag_at};
 
 /// What is found at the front of some bytes is the longest terminal that begins them, and nothing where there is none.
@@ -11,4 +12,9 @@ pub fn terminals_by_productions()
     ensures strings { FindsLongest IsStringLiteral string_at }
     ensures labels { FindsLongest IsBlankNodeLabel label_at }
     ensures tags { FindsLongest IsLangTag tag_at }
+{}
+
+/// Both texts of a term stand for the term again, where any text does; so does that of a label under a scope.
+pub fn texts_stand_for_their_terms()
+    ensures { TextsStand }
 {}

@@ -10,7 +10,7 @@ use Rattle.ntriples_model.specs.Line.{made, scoped}
 use Rattle.ntriples_model.specs.Terminals.{label_at}
 use Rattle.ntriples_model.proofs.Labels.{labels}
 use Rattle.rdf_term.specs.Read.{IsRead}
-use Rattle.rdf_term.proofs.Texts.{joined-last, length-joined, room-added, room-joined, dropped}
+use Rattle.rdf_term.proofs.ScratchTexts.{joined-last, length-joined, room-added, room-joined, dropped}
 use Rattle.rdf_term.specs.Room.{room_of, joined}
 use Rattle.ntriples.specs.Places.{ReadsText, scoped_label_at}
 

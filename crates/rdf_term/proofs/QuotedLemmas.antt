@@ -15,7 +15,7 @@ use Rattle.rdf_term.specs.Body.{body_of, NoBody, IsBodyRead}
 use Rattle.rdf_term.specs.Read.{IsRead}
 use Rattle.rdf_term.specs.Room.{joined}
 use Rattle.rdf_term.proofs.Pieces.{shorter}
-use Rattle.rdf_term.proofs.Texts.{joined-last, dropped}
+use Rattle.rdf_term.proofs.ScratchTexts.{joined-last, dropped}
 
 -- what is behind a first byte that is ASCII is UTF-8 where all is
 behind_ascii : (b : ℕ) (bs : List ℕ) → b < 128 → IsUtf8 (b ∷ bs) → IsUtf8 bs

@@ -8,7 +8,7 @@ use Rattle.rdf_term.specs.declared.body.Stop.TheVariants.{Closed, Escape, Bad}
 use Rattle.rdf_term.specs.Body.{IsPiece, IsRun, StopsAt, NoBody, IsBodyRead, IsBodyLeft}
 use Rattle.rdf_term.specs.Room.{room_of, joined}
 use Rattle.rdf_term.proofs.Pieces.{no_piece, pieces, piece_none, piece_closed, nothing_there}
-use Rattle.rdf_term.proofs.Texts.{length-joined, joined-joined, joined-nil, room-joined}
+use Rattle.rdf_term.proofs.ScratchTexts.{length-joined, joined-joined, joined-nil, room-joined}
 
 pub record IsSoFar (form : Form) (bytes : List ℕ) (start now : List Text) (at : ℕ) : Type 0 where
   pub text : Text

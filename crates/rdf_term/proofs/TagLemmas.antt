@@ -6,7 +6,7 @@ use Rattle.rdf_term.specs.Tag.{fits_by}
 use Rattle.rdf_term.specs.Read.{IsRead}
 use Rattle.rdf_term.specs.Room.{room_of, joined}
 use Rattle.rdf_term.proofs.QuotedLemmas.{grown}
-use Rattle.rdf_term.proofs.Texts.{joined-nil, joined-joined, room-joined, room-added, length-joined}
+use Rattle.rdf_term.proofs.ScratchTexts.{joined-nil, joined-joined, room-joined, room-added, length-joined}
 use Rattle.ntriples_model.proofs.Bodies.{Found, is_same}
 use Rattle.ntriples_model.proofs.Tags.{tag_ascii}
 use Rattle.std.specs.List.{AllByRecursion}

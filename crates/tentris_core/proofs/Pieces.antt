@@ -5,14 +5,14 @@ use Rattle.std.specs.Io.KnownBytes.{append_known}
 use Rattle.std.specs.List.{flat_map}
 use Rattle.std.proofs.lemmas.Grind.{flat_map-append}
 use Rattle.std.proofs.lemmas.List.{take_more, take-append-drop}
-use Rattle.std.specs.Prelude.{Result, Ok, Err, OnOk}
+use Rattle.std.specs.Prelude.{Result, Ok, Err, OnOk, Some, None}
 use Rattle.tn_io.specs.OutText.{all_put}
 use Rattle.tn_io.specs.declared.out.Out.{Out}
 use Rattle.tn_io.specs.declared.outside.Failed.{Failed}
 use Rattle.tn_io.specs.Known.{Begins}
 use Rattle.run_model.specs.Answers.{line_text}
-use Rattle.tentris_core.specs.Puts.{Puts}
-use Rattle.tn_io.proofs.KnownLemmas.{append_known-append, begins_more}
+use Rattle.tentris_core.specs.Puts.{Puts, IsPart}
+use Rattle.tn_io.proofs.KnownLemmas.{append_known-append, begins_more, begins_trans}
 
 module _ {X : Type 0} (f : X → List ℕ) where
   joined_more : (xs : List X) (i : ℕ) (d : X) → i < length xs → flat_map f (take (i + 1) xs) ≡ flat_map f (take i xs) ++ f (get_or xs i d)
@@ -59,11 +59,13 @@ module _ {K : Type 0} {written : K → Option (List ℕ)} {faults : K → ℕ} {
       put = q.put ∙ ap (λ z. append_known z b) first ∙ append_known-append (all_put written old) a b;
       cut = tt;
       cause = record { later = omega (arith, p.cause.later, q.cause.later); failed = tt };
+      grows = begins_trans _ _ _ p.grows q.grows;
     }
     both (Err e) q = record {
       put = tt;
       cut = subst (Begins (written new.sink.now)) (ap (λ z. append_known z b) first ∙ append_known-append (all_put written old) a b) q.cut;
       cause = record { later = omega (arith, p.cause.later, q.cause.later); failed = omega (arith, p.cause.later, q.cause.failed) };
+      grows = begins_trans _ _ _ p.grows q.grows;
     }
 
 module _ {K : Type 0} {written : K → Option (List ℕ)} {faults : K → ℕ} {old mid : Out K} where
@@ -75,4 +77,15 @@ module _ {K : Type 0} {written : K → Option (List ℕ)} {faults : K → ℕ} {
         put = tt;
         cut = subst (Begins (written mid.sink.now)) (append_known-append (all_put written old) a b) (begins_more (written mid.sink.now) (append_known (all_put written old) a) b q.cut);
         cause = record { later = q.cause.later; failed = q.cause.failed };
+        grows = q.grows;
       })
+
+-- a front that grew, and still begins the whole: what it grew by begins the rest
+pub part_of : (a b : Option (List ℕ)) (text : List ℕ) → Begins a b → Begins b (append_known a text) → IsPart a b text
+part_of None None text p q = ([], text, refl, refl)
+part_of None (Some b) text p q = absurd p
+part_of (Some a) None text p q = absurd p
+part_of (Some a) (Some b) text p q = (p.0, q.0, front_gone a text (p.0 ++ q.0) (q.1 ∙ ap (λ z. z ++ q.0) p.1 ∙ append_assoc a p.0 q.0), ap Some p.1) where
+  front_gone : (a xs ys : List ℕ) → a ++ xs ≡ a ++ ys → xs ≡ ys
+  front_gone [] xs ys e = e
+  front_gone (z ∷ a) xs ys e = front_gone a xs ys (let t : a ++ xs ≡ a ++ ys = cc in t)

@@ -2,5 +2,9 @@
 #![tactic(auto)]
 
 mod answer;
+mod block;
+mod running;
 
 pub use answer::{Answer, Refusal};
+pub use block::{Block, Change, Place, Staged};
+pub use running::{MAX_BYTES, Status, run};

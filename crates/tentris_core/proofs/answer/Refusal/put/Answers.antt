@@ -17,3 +17,7 @@ returns-in-NoMemory-clause-put g c =
 pub returns-in-EndInBlock-clause-put : goal.returns-in-EndInBlock-clause-put
 returns-in-EndInBlock-clause-put g c =
     subst (λ r. Puts g.K.Sink.written g.K.Sink.faults c.args.out.now c.put_pieces-in-EndInBlock.new.out c.put_pieces-in-EndInBlock.result (refusal_text (refusal_of r))) (sym c.in-EndInBlock.is) c.put_pieces-in-EndInBlock.ensures.put
+
+pub returns-in-NoCommand-clause-put : goal.returns-in-NoCommand-clause-put
+returns-in-NoCommand-clause-put g c =
+    subst (λ r. Puts g.K.Sink.written g.K.Sink.faults c.args.out.now c.put_pieces.new.out c.put_pieces.result (refusal_text (refusal_of r))) (sym c.in-NoCommand.is) c.put_pieces.ensures.put

@@ -1,0 +1,14 @@
+pub mod Sets
+pub mod SetLaws
+pub mod Slices
+pub mod SliceLaws
+pub mod MapLaws
+pub mod Folds
+pub mod FoldLaws
+pub mod Unions
+pub mod UnionLaws
+pub mod Tails
+pub mod IdSets
+pub mod SetInduction
+pub mod UnionSizes
+pub mod UnionHashes

@@ -1,0 +1,14 @@
+use Rattle.std.proofs.Common.{◌≡◌, ◌+◌, ◌-◌, ◌<◌, ◌^◌, ap, ◌∙◌, sym, arith}
+use Rattle.node_table.specs.Table.{Row, row_at, with_row}
+use Rattle.node_table.proofs.Slots.{IfSome-both, IsSome-both}
+use Rattle.node_table.proofs.table.Table.bump.Goals as goal
+
+pub overflow_add-count : goal.overflow_add-count
+overflow_add-count g c =
+    IsSome-both (row_at c.args.self.now c.args.row) _ _ c.requires.there c.requires.room c.count-count.ensures (λ r limit is. omega arith)
+
+pub returns : goal.returns
+returns g c =
+    IfSome-both (row_at c.args.self.now c.args.row) _ _ _
+    (λ r is written. written ∙ ap (λ n. with_row c.args.self.now c.args.row (record r { count = n + 1 })) (sym is))
+    c.count-count.ensures c.set_count.ensures

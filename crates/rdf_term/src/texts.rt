@@ -1,0 +1,185 @@
+//! The texts of terms: `canon`, in N-Triples, and `tsv`, in an answer (`rdf_model`'s `specs/Texts.antt`).
+ghost use Rattle.std.specs.Prelude.{◌≡◌, ◌++◌, OnOk, OnErr};
+ghost use Rattle.std.specs.Io.KnownBytes.{append_known};
+ghost use Rattle.tn_io.specs.Causes.{HasCause};
+ghost use Rattle.tn_io.specs.Known.{Begins};
+ghost use Rattle.tn_io.specs.OutText.{all_put};
+ghost use Rattle.rdf_model.specs.Texts.{canon, tsv, kind_text};
+ghost use Rattle.rdf_term.specs.Escapes.{form_text, term_text};
+ghost use Rattle.rdf_term.specs.Seen.{lent_kind, lent_term};
+
+use crate::escaped::{Escapes, cut};
+use crate::term::{KindRef, TermRef};
+use std::alloc::Global;
+use tn_io::{Failed, Out, Sink, Text};
+use trie_depth::Memory;
+
+/// The datatype of a literal that names none.
+const XSD_STRING: &str = "http://www.w3.org/2001/XMLSchema#string";
+
+/// Puts a text between two others.
+fn put_between<K: Sink>(
+    out: &mut Out<'_, K>,
+    before: &str,
+    text: &str,
+    behind: &str,
+) -> Result<(), Failed>
+    ensures same_sink { out.new.sink.ghost_name ≡ out.old.sink.ghost_name }
+    ensures ok { OnOk result (all_put K.written out.new ≡ append_known (all_put K.written out.old) (before.now ++ text.now ++ behind.now)) }
+    ensures err { OnErr result (Begins (K.written out.new.sink.now) (append_known (all_put K.written out.old) (before.now ++ text.now ++ behind.now))) }
+    ensures cause { HasCause (K.faults out.old.sink.now) (K.faults out.new.sink.now) result }
+{
+    out.put(before.as_bytes())?;
+    out.put(text.as_bytes())?;
+    out.put(behind.as_bytes())
+}
+
+/// Puts a lexical form with its escapes.
+fn put_form<K: Sink>(out: &mut Out<'_, K>, escapes: Escapes, form: &str) -> Result<(), Failed>
+    ensures same_sink { out.new.sink.ghost_name ≡ out.old.sink.ghost_name }
+    ensures ok { OnOk result (all_put K.written out.new ≡ append_known (all_put K.written out.old) (form_text escapes form.now)) }
+    ensures err { OnErr result (Begins (K.written out.new.sink.now) (append_known (all_put K.written out.old) (form_text escapes form.now))) }
+    ensures cause { HasCause (K.faults out.old.sink.now) (K.faults out.new.sink.now) result }
+{
+    let mut left = form;
+    loop {
+        let (run, behind) = cut(escapes, left);
+        out.put(run.as_bytes())?;
+        let Some((escape, rest)) = behind else {
+            return Ok(());
+        };
+        out.put(escape.as_bytes())?;
+        left = rest;
+    }
+}
+
+/// Puts what stands behind the string of a literal.
+fn put_kind<K: Sink>(out: &mut Out<'_, K>, kind: KindRef<'_>) -> Result<(), Failed>
+    ensures same_sink { out.new.sink.ghost_name ≡ out.old.sink.ghost_name }
+    ensures ok { OnOk result (all_put K.written out.new ≡ append_known (all_put K.written out.old) (kind_text (lent_kind kind.entry))) }
+    ensures err { OnErr result (Begins (K.written out.new.sink.now) (append_known (all_put K.written out.old) (kind_text (lent_kind kind.entry)))) }
+    ensures cause { HasCause (K.faults out.old.sink.now) (K.faults out.new.sink.now) result }
+{
+    match kind {
+        KindRef::Typed(datatype) => {
+            if datatype == XSD_STRING {
+                return Ok(());
+            }
+            put_between(out, "^^<", datatype, ">")
+        }
+        KindRef::Tagged(tag) => put_between(out, "@", tag, ""),
+    }
+}
+
+fn put_term<K: Sink>(out: &mut Out<'_, K>, escapes: Escapes, t: TermRef<'_>) -> Result<(), Failed>
+    ensures same_sink { out.new.sink.ghost_name ≡ out.old.sink.ghost_name }
+    ensures ok { OnOk result (all_put K.written out.new ≡ append_known (all_put K.written out.old) (term_text escapes (lent_term t.entry))) }
+    ensures err { OnErr result (Begins (K.written out.new.sink.now) (append_known (all_put K.written out.old) (term_text escapes (lent_term t.entry)))) }
+    ensures cause { HasCause (K.faults out.old.sink.now) (K.faults out.new.sink.now) result }
+{
+    match t {
+        TermRef::Iri(text) => put_between(out, "<", text, ">"),
+        TermRef::Blank(label) => put_between(out, "_:", label, ""),
+        TermRef::Literal(form, kind) => {
+            out.put(b"\"")?;
+            put_form(out, escapes, form)?;
+            out.put(b"\"")?;
+            put_kind(out, kind)
+        }
+    }
+}
+
+/// Puts the N-Triples text of a term.
+pub fn canon_to<K: Sink>(t: TermRef<'_>, out: &mut Out<'_, K>) -> Result<(), Failed>
+    ensures same_sink { out.new.sink.ghost_name ≡ out.old.sink.ghost_name }
+    ensures ok { OnOk result (all_put K.written out.new ≡ append_known (all_put K.written out.old) (canon (lent_term t.entry))) }
+    ensures err { OnErr result (Begins (K.written out.new.sink.now) (append_known (all_put K.written out.old) (canon (lent_term t.entry)))) }
+    ensures cause { HasCause (K.faults out.old.sink.now) (K.faults out.new.sink.now) result }
+{
+    put_term(out, Escapes::Canon, t)
+}
+
+/// Puts the text of a term in an answer.
+pub fn tsv_to<K: Sink>(t: TermRef<'_>, out: &mut Out<'_, K>) -> Result<(), Failed>
+    ensures same_sink { out.new.sink.ghost_name ≡ out.old.sink.ghost_name }
+    ensures ok { OnOk result (all_put K.written out.new ≡ append_known (all_put K.written out.old) (tsv (lent_term t.entry))) }
+    ensures err { OnErr result (Begins (K.written out.new.sink.now) (append_known (all_put K.written out.old) (tsv (lent_term t.entry)))) }
+    ensures cause { HasCause (K.faults out.old.sink.now) (K.faults out.new.sink.now) result }
+{
+    put_term(out, Escapes::Tsv, t)
+}
+
+/// Adds a lexical form with its escapes.
+fn push_form(to: &mut Text, escapes: Escapes, form: &str) -> Result<(), Memory>
+    ensures { OnOk result (to.new ≡ to.old ++ form_text escapes form.now) }
+{
+    let mut left = form;
+    loop {
+        let (run, behind) = cut(escapes, left);
+        to.push(run)?;
+        let Some((escape, rest)) = behind else {
+            return Ok(());
+        };
+        to.push(escape)?;
+        left = rest;
+    }
+}
+
+/// Adds a text between two others.
+fn push_between(to: &mut Text, before: &str, text: &str, behind: &str) -> Result<(), Memory>
+    ensures { OnOk result (to.new ≡ to.old ++ (before.now ++ text.now ++ behind.now)) }
+{
+    to.push(before)?;
+    to.push(text)?;
+    to.push(behind)
+}
+
+/// Adds what stands behind the string of a literal.
+fn push_kind(to: &mut Text, kind: KindRef<'_>) -> Result<(), Memory>
+    ensures { OnOk result (to.new ≡ to.old ++ kind_text (lent_kind kind.entry)) }
+{
+    match kind {
+        KindRef::Typed(datatype) => {
+            if datatype == XSD_STRING {
+                return Ok(());
+            }
+            push_between(to, "^^<", datatype, ">")
+        }
+        KindRef::Tagged(tag) => push_between(to, "@", tag, ""),
+    }
+}
+
+fn push_term(to: &mut Text, escapes: Escapes, t: TermRef<'_>) -> Result<(), Memory>
+    ensures { OnOk result (to.new ≡ to.old ++ term_text escapes (lent_term t.entry)) }
+{
+    match t {
+        TermRef::Iri(text) => push_between(to, "<", text, ">"),
+        TermRef::Blank(label) => push_between(to, "_:", label, ""),
+        TermRef::Literal(form, kind) => {
+            to.push("\"")?;
+            push_form(to, escapes, form)?;
+            to.push("\"")?;
+            push_kind(to, kind)
+        }
+    }
+}
+
+/// Adds the N-Triples text of a term. On `Memory` the text is as before.
+pub fn canon_text(alloc: Global, t: TermRef<'_>, to: &mut Text) -> Result<(), Memory>
+    ensures ok { OnOk result (to.new ≡ to.old ++ canon (lent_term t.entry)) }
+    ensures err { OnErr result (to.new ≡ to.old) }
+{
+    let mut whole = Text::new(alloc);
+    push_term(&mut whole, Escapes::Canon, t)?;
+    to.push(whole.as_str())
+}
+
+/// Adds the text of a term in an answer. On `Memory` the text is as before.
+pub fn tsv_text(alloc: Global, t: TermRef<'_>, to: &mut Text) -> Result<(), Memory>
+    ensures ok { OnOk result (to.new ≡ to.old ++ tsv (lent_term t.entry)) }
+    ensures err { OnErr result (to.new ≡ to.old) }
+{
+    let mut whole = Text::new(alloc);
+    push_term(&mut whole, Escapes::Tsv, t)?;
+    to.push(whole.as_str())
+}

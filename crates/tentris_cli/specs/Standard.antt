@@ -1,0 +1,10 @@
+-- What is known of standard input and output: no bytes, and how often they failed.
+use Rattle.std.specs.Prelude.{ℕ}
+use Rattle.tentris_cli.specs.declared.standard.Input.{Input}
+use Rattle.tentris_cli.specs.declared.standard.Output.{Output}
+
+abbrev pub input_faults : {R : Type 0} → Input R → ℕ
+input_faults s = s.faults
+
+abbrev pub output_faults : {W : Type 0} → Output W → ℕ
+output_faults s = s.faults

@@ -1,0 +1,69 @@
+//! `tentris`: reads a script from standard input and writes its answers to standard output.
+#![tactic(auto)]
+
+mod standard;
+
+use plain_store::PlainStore;
+use standard::{Input, Output};
+use std::alloc::AllocError;
+use std::env;
+use std::io;
+use std::process::ExitCode;
+use tentris_core::{Status, run};
+
+// The words after the program's name.
+fn words(rt: &HostRuntime) -> io::Result<Vec<String>> {
+    let mut words = Vec::new(rt.alloc());
+    for word in env::args(rt)?.skip(1) {
+        words.push(word)?;
+    }
+    Ok(words)
+}
+
+// The words lent.
+fn lent<'a>(rt: &HostRuntime, words: &'a [String]) -> Result<Vec<&'a str>, AllocError> {
+    let mut lent = Vec::new(rt.alloc());
+    for word in words {
+        lent.push(word.as_str())?;
+    }
+    Ok(lent)
+}
+
+fn carry_out(rt: &HostRuntime) -> Status {
+    let Ok(words) = words(rt) else {
+        return Status::Memory;
+    };
+    let Ok(words) = lent(rt, &words) else {
+        return Status::Memory;
+    };
+    let mut store = PlainStore::new(rt.alloc());
+    let mut source = Input::new(rt.stdin());
+    let mut sink = Output::new(rt.stdout());
+    run(
+        rt.alloc(),
+        &words,
+        &mut store,
+        &mut source,
+        &mut sink,
+    )
+}
+
+// The line on standard error for a status, if it has one.
+fn complaint(status: Status) -> Option<&'static str> {
+    match status {
+        Status::Done | Status::SomeRefused => None,
+        Status::BadWords => Some("tentris: bad words"),
+        Status::ReadFault => Some("tentris: read fault"),
+        Status::WriteFault => Some("tentris: write fault"),
+        Status::Memory => Some("tentris: no memory"),
+        Status::TooLong => Some("tentris: script too long"),
+    }
+}
+
+fn main(rt: HostRuntime) -> ExitCode {
+    let status = carry_out(&rt);
+    if let Some(line) = complaint(status) {
+        let _ = eprintln!(rt; "{line}");
+    }
+    ExitCode::from(status.code())
+}

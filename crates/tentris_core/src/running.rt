@@ -1,0 +1,193 @@
+//! A run over a script: the top call.
+//!
+//! The script is read line by line; each command is carried out whole, or refused, and its answer passed on whole
+//! before the next line is read.
+ghost use Rattle.std.specs.Prelude.{◌≡◌, ◌≤◌, ◌<◌, [], length, IfSome, ◌↔◌, ◌≢◌};
+ghost use Rattle.tn_io.specs.Causes.{Rose};
+ghost use Rattle.tn_io.specs.CutterState.{line_told};
+ghost use Rattle.run_model.specs.Answers.{answer_text, is_refused};
+ghost use Rattle.tentris_core.specs.Seen.{answer_of};
+ghost use Rattle.tentris_core.specs.Places.{lent_line};
+ghost use Rattle.tentris_core.specs.Puts.{PassesOn};
+ghost use Rattle.tentris_core.specs.Runs.{Ends};
+ghost use Rattle.tentris_core.specs.Endings.{Finishes};
+ghost use Rattle.script_read.specs.ScriptState.{at_start};
+
+use crate::answer::{Answer, Refusal};
+use crate::block::{Place, take_line};
+use plain_store::PlainStore;
+use rdf_term::Scratch;
+use script_read::{Script, ScriptFault};
+use std::alloc::Global;
+use tn_io::{Cut, Failed, Out, Sink, Source};
+
+/// The greatest number of bytes of a script.
+pub const MAX_BYTES: u64 = 1_099_511_627_776;
+
+/// How a run ended.
+#[derive(Clone, Copy, Debug, PartialEq, Eq)]
+pub enum Status {
+    /// The script was read to its end, and no command was refused.
+    Done,
+    /// The script was read to its end, and at least one command was refused.
+    SomeRefused,
+    /// The words after the program's name aren't understood.
+    BadWords,
+    /// A read of the script failed.
+    ReadFault,
+    /// A write of an answer failed.
+    WriteFault,
+    /// Memory ran out before the script was read.
+    Memory,
+    /// The script has more bytes than it may have.
+    TooLong,
+}
+
+impl Status {
+    ghost use Rattle.tentris_core.specs.Codes.{code_of};
+
+    /// The exit status of the program.
+    pub fn code(self) -> u8
+        ensures { result ≡ code_of self }
+    {
+        match self {
+            Status::Done => 0,
+            Status::SomeRefused => 1,
+            Status::BadWords => 2,
+            Status::ReadFault => 3,
+            Status::WriteFault => 4,
+            Status::Memory => 5,
+            Status::TooLong => 6,
+        }
+    }
+}
+
+// Passes an answer on whole.
+fn pass_on<K: Sink>(out: &mut Out<'_, K>, answer: &Answer) -> Result<(), Failed>
+    requires { out.old.buffer ≡ [] }
+    ensures same_sink { out.new.sink.ghost_name ≡ out.old.sink.ghost_name }
+    ensures text { PassesOn K.written K.faults out.old out.new result (answer_text (answer_of answer.now)) }
+{
+    answer.put(out)?;
+    out.flush()
+}
+
+// The line that a cut told.
+fn told_line(cut: Cut, script: &Script) -> Option<&[u8]>
+    ensures line { lent_line result ≡ line_told cut script.now.cutter }
+    ensures short { IfSome result (λ l. length l.now ≤ 1048576) }
+{
+    match cut {
+        Cut::Whole => Some(script.line()),
+        Cut::TooLong => None,
+    }
+}
+
+fn is_refusal(answer: &Answer) -> bool
+    ensures { result ≡ is_refused (answer_of answer.now) }
+{
+    matches!(answer, Answer::Refused(_))
+}
+
+// The script has ended: a block without its end is refused.
+fn finish<K: Sink>(place: Place, refused: bool, out: &mut Out<'_, K>) -> Status
+    requires { out.old.buffer ≡ [] }
+    ensures same_sink { out.new.sink.ghost_name ≡ out.old.sink.ghost_name }
+    ensures ends { Finishes K.written place refused out.old out.new result }
+    ensures later { K.faults out.old.sink.now ≤ K.faults out.new.sink.now }
+    ensures fault { result ≡ Status.WriteFault → Rose (K.faults out.old.sink.now) (K.faults out.new.sink.now) }
+{
+    match place {
+        Place::Outside => {
+            if refused {
+                Status::SomeRefused
+            } else {
+                Status::Done
+            }
+        }
+        Place::Inside(_) => {
+            let answer = Answer::Refused(Refusal::EndInBlock);
+            match pass_on(out, &answer) {
+                Ok(()) => Status::SomeRefused,
+                Err(_) => Status::WriteFault,
+            }
+        }
+    }
+}
+
+// Carries out the script, from its first line on.
+fn carry_out<S: Source, K: Sink>(
+    alloc: Global,
+    script: &mut Script,
+    scratch: &mut Scratch,
+    store: &mut PlainStore,
+    source: &mut S,
+    out: &mut Out<'_, K>,
+) -> Status
+    requires start { script.old ≡ at_start MAX_BYTES }
+    requires empty { out.old.buffer ≡ [] }
+    ensures same_sink { out.new.sink.ghost_name ≡ out.old.sink.ghost_name }
+    ensures ends { Ends result MAX_BYTES store.old store.new (S.left source.old) (S.left source.new) (K.written out.old.sink.now) (K.written out.new.sink.now) }
+    ensures accepted { result ≢ Status.BadWords }
+    ensures later_read { S.faults source.old ≤ S.faults source.new }
+    ensures later_write { K.faults out.old.sink.now ≤ K.faults out.new.sink.now }
+    ensures read_fault { result ≡ Status.ReadFault → Rose (S.faults source.old) (S.faults source.new) }
+    ensures write_fault { result ≡ Status.WriteFault → Rose (K.faults out.old.sink.now) (K.faults out.new.sink.now) }
+{
+    let mut place = Place::Outside;
+    let mut refused = false;
+    'lines: loop {
+        let cut = match script.next_line(source) {
+            Ok(Some(cut)) => cut,
+            Ok(None) => return finish(place, refused, out),
+            Err(ScriptFault::Read) => return Status::ReadFault,
+            Err(ScriptFault::TooLong) => return Status::TooLong,
+        };
+        let (next, answer) = take_line(alloc, store, place, told_line(cut, script), scratch);
+        place = next;
+        if let Some(answer) = answer {
+            refused = refused || is_refusal(&answer);
+            let Ok(()) = pass_on(out, &answer) else {
+                return Status::WriteFault;
+            };
+        }
+    }
+}
+
+/// Carries out a script from the source over the store, and writes the answers to the sink.
+///
+/// `words` are those of the command line after the program's name; none is understood. The script has at most
+/// `MAX_BYTES` bytes. Running out of memory before the script is read is `Memory`; later it refuses the one command.
+pub fn run<S: Source, K: Sink>(
+    alloc: Global,
+    words: &[&str],
+    store: &mut PlainStore,
+    source: &mut S,
+    sink: &mut K,
+) -> Status
+    ensures ends { Ends result MAX_BYTES store.old store.new (S.left source.old) (S.left source.new) (K.written sink.old) (K.written sink.new) }
+    ensures words { (result ≡ Status.BadWords) ↔ (0 < length words.now) }
+    ensures later_read { S.faults source.old ≤ S.faults source.new }
+    ensures later_write { K.faults sink.old ≤ K.faults sink.new }
+    ensures read_fault { result ≡ Status.ReadFault → Rose (S.faults source.old) (S.faults source.new) }
+    ensures write_fault { result ≡ Status.WriteFault → Rose (K.faults sink.old) (K.faults sink.new) }
+{
+    if !words.is_empty() {
+        return Status::BadWords;
+    }
+    let Ok(mut script) = Script::new(alloc, MAX_BYTES) else {
+        return Status::Memory;
+    };
+    let Ok(mut scratch) = Scratch::new(alloc) else {
+        return Status::Memory;
+    };
+    let mut out = Out::new(sink);
+    carry_out(
+        alloc,
+        &mut script,
+        &mut scratch,
+        store,
+        source,
+        &mut out,
+    )
+}

@@ -1,0 +1,45 @@
+-- What contracts see of a dictionary: a finite map from the numbers of Ids to terms.
+use Rattle.std.specs.Prelude.{◌≡◌, ◌≢◌, ◌⊎◌, ℕ, ◌+◌, ◌<◌, ◌≤◌, ◌^◌, List, [], ◌∷◌, length, Option, None, Some, IsSome, codes}
+use Rattle.std.specs.Ordering.{nat_cmp}
+use Rattle.std.specs.FinMap as map
+use Rattle.std.specs.FinMap.{FinMap}
+use Rattle.std.specs.Hash.FoldHasher as folding
+use Rattle.rdf_model.specs.Terms.{Text, Term, Iri, Blank, Literal, Kind, Typed, Tagged}
+use Rattle.hash_index.specs.Slots.{slot_at, IsIndexed}
+
+abbrev pub Terms : Type 0
+Terms = FinMap nat_cmp Term
+
+-- no Id has the term
+abbrev pub IsNew : Terms → Term → Type 0
+IsNew terms term = (id : ℕ) → map.get terms id ≢ Some term
+
+-- no two Ids have one term
+abbrev pub IsOneToOne : Terms → Type 0
+IsOneToOne terms = (p q : ℕ) (term : Term) → map.get terms p ≡ Some term → map.get terms q ≡ Some term → p ≡ q
+
+-- each Id is below 2 ^ 31
+abbrev pub HasSmallIds : Terms → Type 0
+HasSmallIds terms = (id : ℕ) → IsSome (map.get terms id) → id < 2 ^ 31
+
+-- the Id has the term: as before, or as a new Id of a new term
+abbrev pub Interns : Terms → Terms → Term → ℕ → Type 0
+Interns old new term id =
+    ((map.get old id ≡ Some term) × (new ≡ old))
+    ⊎ (IsNew old term × (map.get old id ≡ None) × (new ≡ map.insert old id term))
+
+-- the texts of a term of which its hash is made
+abbrev pub texts_of : Term → Text × Text
+texts_of (Iri text) = (text, [])
+texts_of (Blank label) = (label, 95 ∷ [])
+texts_of (Literal form (Typed datatype)) = (form, datatype)
+texts_of (Literal form (Tagged tag)) = (form, tag)
+
+unfoldable pub hash_of : Term → ℕ
+hash_of term = folding.finish (folding.write (folding.write folding.initial (texts_of term).0) (texts_of term).1)
+
+-- the index has exactly the terms, each under its hash, no two places have one term, and the places are at most 2 ^ 31
+pub record IsSound (slots : List (Option Term)) (index : FinMap nat_cmp ℕ) : Type 0 where
+  pub indexed : IsIndexed hash_of slots index
+  pub different : (p q : ℕ) (term : Term) → slot_at slots p ≡ Some term → slot_at slots q ≡ Some term → p ≡ q
+  pub few : length slots ≤ 2 ^ 31

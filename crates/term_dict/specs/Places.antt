@@ -1,0 +1,40 @@
+-- What the places of a dictionary hold.
+use Rattle.std.specs.Prelude.{◌≡◌, ℕ, zero, suc, ◌+◌, List, map, length, Option, None, Some, is_some, count_by, slice_get, refl}
+use Rattle.std.specs.Coded.{Coded, code_by, coded×, coded_ℕ, coded_list, coded_option}
+use Rattle.rdf_model.specs.Terms.{Term, Iri, Blank, Literal, Typed, Tagged}
+use Rattle.rdf_model.specs.Graph.{coded_term}
+use Rattle.term_dict.specs.declared.place.Place.{Place}
+use Rattle.term_dict.specs.declared.place.Place.TheVariants as place
+use Rattle.term_dict.specs.declared.place.TheConstants.{XSD_STRING}
+
+-- the term in a place, if there is one
+abbrev pub term_in : Place → Option Term
+term_in (place.Vacant next) = None
+term_in (place.Iri text) = Some (Iri text)
+term_in (place.Blank label) = Some (Blank label)
+term_in (place.Plain form) = Some (Literal form (Typed XSD_STRING.now))
+term_in (place.Typed texts) = Some (Literal texts.0 (Typed texts.1))
+term_in (place.Tagged texts) = Some (Literal texts.0 (Tagged texts.1))
+
+-- the terms by their places, the place of the next term, and for how many places there is room
+pub record Slots : Type 0 where
+  pub slots : List (Option Term)
+  pub next : ℕ
+  pub capacity : ℕ
+
+abbrev pub slots_code : Coded Slots
+slots_code =
+    code_by (List (Option Term) × (ℕ × ℕ)) (coded× (coded_list (coded_option coded_term)) (coded× coded_ℕ coded_ℕ)) (λ s. (s.slots, (s.next, s.capacity)))
+    (λ p. record { slots = p.0; next = p.1.0; capacity = p.1.1 }) (λ _. refl)
+
+-- from this number on so many places without a term each name the next, and the last names the number of places
+abbrev pub IsVacantList : List Place → ℕ → ℕ → Type 0
+IsVacantList places zero number = number ≡ length places
+IsVacantList places (suc count) number = (next : ℕ) × (slice_get places number ≡ Some (place.Vacant next)) × IsVacantList places count next
+
+-- `held` counts the terms, and the list from `next` has every place without one
+pub record IsSound (places : List Place) (held next : ℕ) : Type 0 where
+  pub counted : held ≡ count_by is_some (map term_in places)
+  pub vacant : ℕ
+  pub total : held + vacant ≡ length places
+  pub linked : IsVacantList places vacant next

@@ -1,0 +1,66 @@
+//! A place of the dictionary: a term in one allocation, or none.
+ghost use Rattle.std.specs.Prelude.{◌≡◌, IfOk, None, Some, MatchOption};
+ghost use Rattle.rdf_term.specs.Seen.{lent_term};
+ghost use Rattle.term_dict.specs.Places.{term_in};
+
+use std::alloc::Global;
+
+use rdf_term::{KindRef, TermRef};
+use tn_io::Text;
+use trie_depth::Memory;
+
+use crate::joined::Joined;
+
+/// The datatype that costs no text (RDF 1.1 Concepts, section 5.1).
+const XSD_STRING: &str = "http://www.w3.org/2001/XMLSchema#string";
+
+#[derive(Drop)]
+pub enum Place {
+    /// No term; the next place without one, or the number of places.
+    Vacant(usize),
+    Iri(Text),
+    Blank(Text),
+    /// A literal of xsd:string.
+    Plain(Text),
+    Typed(Joined),
+    Tagged(Joined),
+}
+
+impl Place {
+    /// A place that holds the term.
+    pub(crate) fn of(alloc: Global, term: TermRef<'_>) -> Result<Place, Memory>
+        ensures { IfOk result (λ p. term_in p ≡ Some (lent_term term.entry)) }
+    {
+        match term {
+            TermRef::Iri(text) => Ok(Place::Iri(Text::of(alloc, text)?)),
+            TermRef::Blank(label) => Ok(Place::Blank(Text::of(alloc, label)?)),
+            TermRef::Literal(form, KindRef::Typed(datatype)) => {
+                if datatype == XSD_STRING {
+                    return Ok(Place::Plain(Text::of(alloc, form)?));
+                }
+                Ok(Place::Typed(Joined::of(alloc, form, datatype)?))
+            }
+            TermRef::Literal(form, KindRef::Tagged(tag)) => {
+                Ok(Place::Tagged(Joined::of(alloc, form, tag)?))
+            }
+        }
+    }
+
+    /// The term in this place, lent.
+    pub(crate) fn lent(&self) -> Option<TermRef<'_>>
+        ensures { MatchOption result (term_in self.now ≡ None) (λ t. term_in self.now ≡ Some (lent_term t)) }
+    {
+        match self {
+            Place::Vacant(_) => None,
+            Place::Iri(text) => Some(TermRef::Iri(text.as_str())),
+            Place::Blank(label) => Some(TermRef::Blank(label.as_str())),
+            Place::Plain(form) => Some(TermRef::Literal(form.as_str(), KindRef::Typed(XSD_STRING))),
+            Place::Typed(texts) => {
+                Some(TermRef::Literal(texts.first(), KindRef::Typed(texts.second())))
+            }
+            Place::Tagged(texts) => {
+                Some(TermRef::Literal(texts.first(), KindRef::Tagged(texts.second())))
+            }
+        }
+    }
+}

@@ -1,0 +1,5 @@
+pub mod ChangeLemmas
+pub mod RowChanges
+pub mod TableMoves
+pub mod ReleaseLemmas
+pub mod InternLemmas

@@ -1,0 +1,130 @@
+//! The tables of a graph and the calls that keep them.
+ghost use Rattle.std.specs.Prelude.{◌≡◌, ◌≢◌, ℕ, ◌+◌, ◌-◌, ◌≤◌, Some, IsSome, IsNone, IfSome, IfOk, OnOk, OnErr};
+ghost use Rattle.trie_node.specs.Sets.{leads, edges_of};
+ghost use Rattle.trie_context.specs.Rows.{no_tables, row_of, node_of, node_set, set_of, LeadsToRow};
+ghost use Rattle.trie_context.specs.Holds.{holds_of, one_at, at_depth, nothing, HasRoom, CountsRiseBy, RowsStay};
+ghost use Rattle.trie_context.specs.Kept.{IsNode, AreKept, AreMoved};
+
+use crate::held::Held;
+use crate::intern::{intern_row, retain_row};
+use crate::release::release_row;
+use crate::tables::Tables;
+use edge_map::Edge;
+use std::alloc::Global;
+use std::marker::{Model, PhantomData};
+use std::sync::ledger::Ledger;
+use trie_depth::{Level, Memory, Mix, Steps};
+use trie_node::Node;
+
+/// The tables of one graph. Their hashes are those of the mix `M`.
+#[derive(Drop)]
+pub struct Context<M: Mix> {
+    tables: Tables,
+    mix: PhantomData<M>,
+}
+
+impl<M: Mix> Model for Context<M> {
+    ghost use Rattle.trie_context.specs.Kept.{AreKept};
+    ghost use Rattle.trie_context.specs.declared.tables.Tables.{Tables};
+    ghost use Rattle.trie_context.specs.contracts.tables.Tables as all;
+
+    ghost Value = { Tables };
+
+    ghost coded = { all.the_row.coded };
+
+    ghost view = { λ c. c.tables };
+
+    ghost invariant = { λ c. AreKept M.mixed c.tables };
+}
+
+impl<M: Mix> Context<M> {
+    pub fn new(alloc: Global) -> Context<M>
+        ensures { result ≡ no_tables }
+    {
+        Context {
+            tables: Tables::new(alloc),
+            mix: PhantomData,
+        }
+    }
+
+    pub fn tables(&self) -> &Tables
+        ensures same { result.now ≡ self.now }
+        ensures kept { AreKept M.mixed self.now }
+    {
+        &self.tables
+    }
+
+    /// A hold on the one row that is equal to the node, made where there was none. The node's edges become those of the
+    /// new row; where there was one, and for want of memory, they are given up.
+    pub fn intern<L: Level, W: Ledger>(
+        &mut self,
+        node: Node,
+        interns: &mut Steps<W>,
+    ) -> Result<Held<L>, Memory>
+        requires form { IsNode M.mixed L.DEPTH (set_of self.old (L.DEPTH - 1)) node }
+        requires held { (r : ℕ) → edges_of node r ≤ holds_of self.old (L.DEPTH - 1) r }
+        requires room { HasRoom self.old }
+        ensures there { IfOk result (λ k. node_of self.new L.DEPTH k ≡ Some node) }
+        ensures moved { IfOk result (λ k. AreMoved M.mixed self.old self.new (at_depth L.DEPTH (one_at k)) (at_depth (L.DEPTH - 1) (edges_of node))) }
+        ensures counts { IfOk result (λ k. CountsRiseBy self.old self.new (at_depth L.DEPTH (one_at k))) }
+        ensures stay { OnOk result (RowsStay self.old self.new) }
+        ensures given { OnErr result (AreMoved M.mixed self.old self.new nothing (at_depth (L.DEPTH - 1) (edges_of node))) }
+        ensures fallen { OnErr result (CountsRiseBy self.old self.new nothing) }
+        ensures came { OnErr result (RowsStay self.new self.old) }
+        ensures ticks { interns.new ≡ interns.old + 1 }
+    {
+        interns.tick();
+        let row = intern_row::<M>(&mut self.tables, L::DEPTH, node)?;
+        Ok(Held::new(row))
+    }
+
+    /// A second hold on the row.
+    pub fn retain<L: Level, W: Ledger>(&mut self, held: &Held<L>, retains: &mut Steps<W>) -> Held<L>
+        requires held { 1 ≤ holds_of self.old L.DEPTH held.now }
+        requires room { HasRoom self.old }
+        ensures same { result ≡ held.now }
+        ensures moved { AreMoved M.mixed self.old self.new (at_depth L.DEPTH (one_at held.now)) nothing }
+        ensures counts { CountsRiseBy self.old self.new (at_depth L.DEPTH (one_at held.now)) }
+        ensures stay { RowsStay self.old self.new }
+        ensures ticks { retains.new ≡ retains.old + 1 }
+    {
+        retains.tick();
+        retain_row::<M>(&mut self.tables, L::DEPTH, held.row());
+        Held::new(held.row())
+    }
+
+    /// A hold on the row that an edge of a node of this level leads to; for a key there is nothing to hold.
+    pub fn retain_edge<L: Level, W: Ledger>(&mut self, edge: Edge, retains: &mut Steps<W>)
+        requires there { LeadsToRow self.old (L.DEPTH - 1) edge }
+        requires room { HasRoom self.old }
+        ensures moved { AreMoved M.mixed self.old self.new (at_depth (L.DEPTH - 1) (leads edge)) nothing }
+        ensures counts { CountsRiseBy self.old self.new (at_depth (L.DEPTH - 1) (leads edge)) }
+        ensures stay { RowsStay self.old self.new }
+        ensures ticks { retains.new ≡ retains.old + 1 }
+    {
+        retains.tick();
+        match edge {
+            Edge::Key(_) => {}
+            Edge::Node(row) => retain_row::<M>(&mut self.tables, L::DEPTH - 1, row),
+        }
+    }
+
+    /// Gives the hold up. A row that nothing leads to any more goes away, and its edges are given up.
+    pub fn release<L: Level>(&mut self, held: Held<L>)
+        requires held { 1 ≤ holds_of self.old L.DEPTH held }
+        ensures moved { AreMoved M.mixed self.old self.new nothing (at_depth L.DEPTH (one_at held)) }
+        ensures counts { CountsRiseBy self.old self.new nothing }
+        ensures came { RowsStay self.new self.old }
+    {
+        release_row::<M>(&mut self.tables, L::DEPTH, held.into_row());
+    }
+
+    /// The row that stands for the set of the node.
+    pub fn find<L: Level>(&self, node: &Node) -> Option<usize>
+        requires form { IsNode M.mixed L.DEPTH (set_of self.now (L.DEPTH - 1)) node.now }
+        ensures there { IfSome result (λ r. node_of self.now L.DEPTH r ≡ Some node.now) }
+        ensures none { IsNone result → (r : ℕ) → IsSome (row_of self.now L.DEPTH r) → set_of self.now L.DEPTH r ≢ node_set L.DEPTH (set_of self.now (L.DEPTH - 1)) node.now }
+    {
+        self.tables.find_equal(L::DEPTH, node, node.hash_of::<M>())
+    }
+}

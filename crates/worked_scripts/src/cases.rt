@@ -1,0 +1,171 @@
+//! Scripts, the answers that they want, and how they end.
+use crate::harness::run_in_pieces;
+use plain_store::PlainStore;
+use std::test::Fail;
+use tentris_core::{Status, run};
+use tn_io::{MemSink, MemSource};
+
+const TWO: &str = "INSERT\n<x:a> <x:p> <x:b> .\n<x:a> <x:p> <x:c> .\nGO\n";
+
+#[test]
+fn scripts_have_their_answers(rt: HostRuntime) -> Result<(), Fail> {
+    let cases = [
+        ("the empty script", "", "", Status::Done, 0),
+        ("the two triples", TWO, "ok new 2 now 2\n", Status::Done, 2),
+        (
+            "a literal",
+            "INSERT\n<x:a> <x:p> \"a\" .\nGO",
+            "ok new 1 now 1\n",
+            Status::Done,
+            1,
+        ),
+        (
+            "no command form",
+            "STATS\ninsert\nGO\nLOAD\n INSERT x\n",
+            "refused 1 command\nrefused 1 command\nrefused 1 command\nrefused 1 command\nrefused 1 command\n",
+            Status::SomeRefused,
+            0,
+        ),
+        (
+            "a block without its end",
+            "INSERT\n<x:a> <x:p> <x:b> .\n",
+            "refused 10 unended\n",
+            Status::SomeRefused,
+            0,
+        ),
+        (
+            "a bad line in a block without its end",
+            "INSERT\n<x:a> .\n",
+            "refused 10 unended\n",
+            Status::SomeRefused,
+            0,
+        ),
+        (
+            "a refused block changes nothing",
+            "INSERT\n<x:a> <x:p> <x:b> .\n<x:a> <x:p> <x:c> .\nGO\nINSERT\n<x:a> <x:p> <x:e> .\n# note\n<x:a> <x:p> .\nGO\n",
+            "ok new 2 now 2\nrefused 3 line 3\n",
+            Status::SomeRefused,
+            2,
+        ),
+        (
+            "an escape that stands for a blank in an IRI",
+            "INSERT\n<x:a\\u0020b> <x:p> <x:b> .\nGO\n",
+            "refused 3 line 1\n",
+            Status::SomeRefused,
+            0,
+        ),
+        (
+            "a relative IRI",
+            "INSERT\n<a> <x:p> <x:b> .\nGO\n",
+            "refused 3 line 1\n",
+            Status::SomeRefused,
+            0,
+        ),
+        (
+            "no blanks, and a comment right behind",
+            "INSERT\n<x:a><x:p>_:o.#c\nGO\n",
+            "ok new 1 now 1\n",
+            Status::Done,
+            1,
+        ),
+        (
+            "repeats count once",
+            "INSERT\n<x:a> <x:p> <x:b> .\n<x:a> <x:p> <x:b> .\nGO\nINSERT\n<x:a> <x:p> <x:b> .\nGO\n",
+            "ok new 1 now 1\nok new 0 now 1\n",
+            Status::Done,
+            1,
+        ),
+        (
+            "one term in two spellings",
+            "INSERT\n<x:a> <x:p> \"a\" .\n<x:a> <x:p> \"a\"^^<http://www.w3.org/2001/XMLSchema#string> .\n<x:a> <x:p> \"t\\t\\n\"@EN .\n<x:a> <x:p> \"t\\u0009\\n\"@en .\nGO\n",
+            "ok new 2 now 2\n",
+            Status::Done,
+            2,
+        ),
+        (
+            "what isn't there isn't taken away",
+            "INSERT\n<x:a> <x:p> <x:b> .\n<x:a> <x:p> <x:c> .\nGO\nDELETE\n<x:q> <x:p> <x:b> .\nGO\nDELETE\n<x:a> <x:p> <x:b> .\n<x:a> <x:p> <x:b> .\nGO\n",
+            "ok new 2 now 2\nok gone 0 now 2\nok gone 1 now 1\n",
+            Status::Done,
+            1,
+        ),
+        (
+            "lines end at CR, LF and CR LF",
+            "# a script\r\n\r\tINSERT \r\n<x:a> <x:p> <x:b> .\r<x:a> <x:p> <x:c> .\n\nGO\r\n",
+            "ok new 2 now 2\n",
+            Status::Done,
+            2,
+        ),
+        (
+            "a block that holds nothing",
+            "INSERT\nGO\nDELETE\n# nothing\nGO",
+            "ok new 0 now 0\nok gone 0 now 0\n",
+            Status::Done,
+            0,
+        ),
+        (
+            "a dump",
+            "INSERT\n<x:a> <x:p> \"t\\t\\n\"@EN .\n<x:a> <x:p> <x:b> .\n_:b <x:p> \"q\\\"\\\\\" .\nGO\nDUMP\n",
+            "ok new 3 now 3\n<x:a> <x:p> \"t\t\\n\"@en .\n<x:a> <x:p> <x:b> .\n_:b <x:p> \"q\\\"\\\\\" .\nok dump 3\n",
+            Status::Done,
+            3,
+        ),
+        (
+            "a refused block, and a dump of what was there",
+            "INSERT\n<x:a> <x:p> <x:b> .\n<x:a> <x:p> <x:c> .\nGO\nINSERT\n<x:a> <x:p> <x:e> .\n# note\n<x:a> <x:p> .\nGO\nDUMP\n",
+            "ok new 2 now 2\nrefused 3 line 3\n<x:a> <x:p> <x:b> .\n<x:a> <x:p> <x:c> .\nok dump 2\n",
+            Status::SomeRefused,
+            2,
+        ),
+    ];
+    for (name, script, want, status, triples) in cases {
+        for piece in 1..=64usize {
+            let got = run_in_pieces(rt.alloc(), script.as_bytes(), piece, 0, 0)?;
+            assert_eq!(rt; got.written.as_slice(), want.as_bytes(), "{name}, in pieces of {piece}");
+            assert_eq!(rt; got.status, status, "{name}, in pieces of {piece}");
+            assert_eq!(rt; got.triples, triples, "{name}, in pieces of {piece}");
+        }
+    }
+    Ok(())
+}
+
+#[test]
+fn a_line_that_is_no_text_is_refused(rt: HostRuntime) -> Result<(), Fail> {
+    let script = b"INSERT\n<x:a> <x:p> \"\xff\" .\nGO\n# \xff\n";
+    let got = run_in_pieces(rt.alloc(), script.as_slice(), 7, 0, 0)?;
+    assert_eq!(rt; got.written.as_slice(), b"refused 3 line 1\n".as_slice());
+    assert_eq!(rt; got.status, Status::SomeRefused);
+    Ok(())
+}
+
+#[test]
+fn long_lines(rt: HostRuntime) -> Result<(), Fail> {
+    let alloc = rt.alloc();
+    for (more, want) in [(0usize, "ok new 1 now 1\n"), (1, "refused 3 line 1\n")] {
+        let mut script = b"INSERT\n<x:a> <x:p> \"".to_vec(alloc)?;
+        script.resize(7 + 1_048_576 - 3 + more, b'a')?;
+        script.extend_from_slice(b"\" .\nGO\n")?;
+        let got = run_in_pieces(alloc, script.as_slice(), 8192, 0, 0)?;
+        assert_eq!(rt; got.written.as_slice(), want.as_bytes(), "{more} more");
+    }
+    let mut script = Vec::new(alloc);
+    script.resize(1_048_577, b' ')?;
+    script.extend_from_slice(b"\nINSERT\nGO\n")?;
+    let got = run_in_pieces(alloc, script.as_slice(), 8192, 0, 0)?;
+    assert_eq!(rt; got.written.as_slice(), b"refused 1 command\nok new 0 now 0\n".as_slice());
+    Ok(())
+}
+
+#[test]
+fn no_word_is_understood(rt: HostRuntime) -> Result<(), Fail> {
+    let alloc = rt.alloc();
+    let mut store = PlainStore::new(alloc);
+    let mut source = MemSource::new(TWO.as_bytes().to_vec(alloc)?, 64, Vec::new(alloc));
+    let mut sink = MemSink::new(alloc, 64, Vec::new(alloc));
+    let status = run(alloc, &["--sort"], &mut store, &mut source, &mut sink);
+    assert_eq!(rt; status, Status::BadWords);
+    assert_eq!(rt; status.code(), 2);
+    assert_eq!(rt; sink.bytes().len(), 0);
+    assert_eq!(rt; store.len(), 0);
+    Ok(())
+}

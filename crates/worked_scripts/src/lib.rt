@@ -1,0 +1,9 @@
+//! Scripts with their answers, run over sources and sinks in memory. This crate has tests alone.
+#![tactic(auto)]
+
+#[cfg(test)]
+mod cases;
+#[cfg(test)]
+mod faults;
+#[cfg(test)]
+mod harness;

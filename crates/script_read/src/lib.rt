@@ -5,6 +5,9 @@ mod form;
 mod reading;
 mod script;
 
+#[cfg(test)]
+mod tests;
+
 pub use form::Command;
 pub use reading::{command, skipped};
 pub use script::{Script, ScriptFault};

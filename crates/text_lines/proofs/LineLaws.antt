@@ -45,15 +45,15 @@ cuts_both (b ∷ bs) =
 
 -- from the productions to the function
 
-or_left : (a b : Bool) → (a || b) ≡ false → a ≡ false
+pub or_left : (a b : Bool) → (a || b) ≡ false → a ≡ false
 or_left true b h = h
 or_left false b h = refl
 
-or_right : (a b : Bool) → (a || b) ≡ false → b ≡ false
+pub or_right : (a b : Bool) → (a || b) ≡ false → b ≡ false
 or_right true b h = absurd (cc)
 or_right false b h = h
 
-cuts_after-line : (line bs : List ℕ) → HasNoEnd line → cuts_after false (line ++ bs) ≡ before line (cuts_after false bs)
+pub cuts_after-line : (line bs : List ℕ) → HasNoEnd line → cuts_after false (line ++ bs) ≡ before line (cuts_after false bs)
 cuts_after-line [] bs h = refl
 cuts_after-line (b ∷ line) bs h = rw (or_left (is_end b) (list_any is_end line) h) (ap (front b) (cuts_after-line line bs (or_right (is_end b) (list_any is_end line) h)))
 

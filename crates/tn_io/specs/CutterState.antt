@@ -1,5 +1,5 @@
 -- What a cutter has yet to tell of the lines of a text, when some bytes of the next line have come already.
-use Rattle.std.specs.Prelude.{ℕ, ◌≤◌, Bool, false, List, [], ◌∷◌, Option, Some, None, if◌then◌else◌}
+use Rattle.std.specs.Prelude.{◌≡◌, ℕ, ◌<◌, ◌≤◌, Bool, false, List, [], ◌∷◌, ◌++◌, take, Option, Some, None, if◌then◌else◌}
 use Rattle.text_lines.specs.Lines.{Line, Cuts, Ended, Last, before, cuts_after, all_lines, whole_lines, longest}
 use Rattle.tn_io.specs.declared.cutter.Cut.{Cut}
 use Rattle.tn_io.specs.declared.cutter.Cut.TheVariants.{Whole, TooLong}
@@ -44,3 +44,10 @@ told (Some cut) s = line_told cut s ∷ []
 pub record IsState (len capacity : ℕ) : Type 0 where
   pub short : len ≤ longest
   pub room : longest ≤ capacity
+
+-- The first n bytes of a piece were taken, and `cut` is what they tell: the first whole line of the piece, where it has one.
+pub record Takes (old : State) (piece : List ℕ) (n : ℕ) (cut : Option Cut) (new : State) : Type 0 where
+  pub lines : (rest : List ℕ) → to_come old (take n piece ++ rest) ≡ told cut new ++ to_come new rest
+  pub whole : (rest : List ℕ) → whole_to_come old (take n piece ++ rest) ≡ told cut new ++ whole_to_come new rest
+  pub none_earlier : (k : ℕ) → k < n → whole_to_come old (take k piece) ≡ []
+  pub none_left : whole_to_come new [] ≡ []

@@ -1,23 +1,36 @@
-use Rattle.std.proofs.Common.{rules, arith, ◌≡◌, ◌<◌, ◌+◌, ◌++◌, List, ℕ, [], take, length, ap, sym, ◌∙◌}
-use Rattle.tn_io.specs.CutterState.{to_come, whole_to_come}
-use Rattle.tn_io.proofs.LineLemmas.{no_whole_left, none_at_start, none_more, taken_more}
+use Rattle.std.proofs.Common.{rules, arith, ◌-◌, [], length, drop, ap, sym, ◌∙◌, length-drop}
+use Rattle.std.proofs.lemmas.List.{take_all}
+use Rattle.tn_io.specs.CutterState.{whole_to_come}
+use Rattle.tn_io.proofs.LineLemmas.{no_whole_left, none_taken, more_taken, further, not_some}
 use Rattle.tn_io.proofs.cutter.Cutter.take.Goals as goal
 
-pub loop-i-init : goal.loop-i-init
-loop-i-init c =
-    let none : whole_to_come c.args.self.now [] ≡ [] =
-    ap (λ s. whole_to_come s []) (sym c.self.view_is)
-    ∙ no_whole_left (record { line = c.self.inside.line.items; cr = c.self.inside.after_cr; told = c.self.inside.told; ended = c.self.inside.ended }) (search rules) in
-    record { lines = search rules; whole = search rules; none = none_at_start c.args.self.now c.args.piece.now none; none_left = none }
+pub loop-taken-init : goal.loop-taken-init
+loop-taken-init c =
+    none_taken c.args.self.now c.args.piece.now
+    (ap (λ s. whole_to_come s []) (sym c.self.view_is)
+    ∙ no_whole_left (record { line = c.self.inside.line.items; cr = c.self.inside.after_cr; told = c.self.inside.told; ended = c.self.inside.ended }) (search rules))
 
-pub loop-i-preserved : goal.loop-i-preserved
-loop-i-preserved c =
-    let fits : c.loop-i.i < length c.args.piece.now = omega arith in
-    let whole : (rest : List ℕ) → whole_to_come c.args.self.now (take (c.loop-i.i + 1) c.args.piece.now ++ rest) ≡ whole_to_come c.byte.new.self rest =
-    λ rest. ap (whole_to_come c.args.self.now) (taken_more c.loop-i.i c.args.piece.now rest fits) ∙ c.loop-i.invariant.whole _ ∙ c.in_default.ensures.whole rest in
-    record {
-      lines = λ rest. ap (to_come c.args.self.now) (taken_more c.loop-i.i c.args.piece.now rest fits) ∙ c.loop-i.invariant.lines _ ∙ c.in_default.ensures.lines rest;
-      whole = whole;
-      none = none_more c.args.self.now c.byte.new.self c.args.piece.now c.loop-i.i c.loop-i.invariant.none whole c.byte.ensures.none_left;
-      none_left = c.byte.ensures.none_left;
-    }
+pub returns-then-is_some-clause-lines : goal.returns-then-is_some-clause-lines
+returns-then-is_some-clause-lines c =
+    (more_taken c.args.self.now c.loop-taken.self c.part-count.new.self c.args.piece.now _ c.loop-taken.taken c.part-count.result.0 c.part-count.result.1 c.loop-taken.invariant
+    (take_all (length c.args.piece.now - c.loop-taken.taken) (drop c.loop-taken.taken c.args.piece.now) (omega (arith, length-drop c.loop-taken.taken c.args.piece.now)))
+    c.part-count.ensures.within.1 c.part-count.ensures.takes).lines
+
+pub returns-then-is_some-clause-whole : goal.returns-then-is_some-clause-whole
+returns-then-is_some-clause-whole c =
+    (more_taken c.args.self.now c.loop-taken.self c.part-count.new.self c.args.piece.now _ c.loop-taken.taken c.part-count.result.0 c.part-count.result.1 c.loop-taken.invariant
+    (take_all (length c.args.piece.now - c.loop-taken.taken) (drop c.loop-taken.taken c.args.piece.now) (omega (arith, length-drop c.loop-taken.taken c.args.piece.now)))
+    c.part-count.ensures.within.1 c.part-count.ensures.takes).whole
+
+pub returns-then-is_some-clause-none_earlier : goal.returns-then-is_some-clause-none_earlier
+returns-then-is_some-clause-none_earlier c =
+    (more_taken c.args.self.now c.loop-taken.self c.part-count.new.self c.args.piece.now _ c.loop-taken.taken c.part-count.result.0 c.part-count.result.1 c.loop-taken.invariant
+    (take_all (length c.args.piece.now - c.loop-taken.taken) (drop c.loop-taken.taken c.args.piece.now) (omega (arith, length-drop c.loop-taken.taken c.args.piece.now)))
+    c.part-count.ensures.within.1 c.part-count.ensures.takes).none_earlier
+
+pub loop-taken-preserved : goal.loop-taken-preserved
+loop-taken-preserved c =
+    further c.args.self.now c.loop-taken.self c.part-count.new.self c.args.piece.now _ c.loop-taken.taken c.part-count.result.0 c.part-count.result.1 c.loop-taken.invariant
+    (take_all (length c.args.piece.now - c.loop-taken.taken) (drop c.loop-taken.taken c.args.piece.now) (omega (arith, length-drop c.loop-taken.taken c.args.piece.now)))
+    c.part-count.ensures.within.1
+    (not_some c.part-count.result.1 c.is_some.result c.is_some.ensures c.if-is_some.false) c.part-count.ensures.takes

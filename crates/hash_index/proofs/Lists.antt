@@ -1,5 +1,5 @@
 -- Lists under hashes, and the finite map that they stand for.
-use Rattle.std.proofs.Common.{◌≡◌, ◌≢◌, ◌==◌, ◌⊎◌, ℕ, ◌+◌, ◌<◌, ◌≤◌, Bool, true, false, cond, Result, Ok, Err, OnOk, OnErr, List, [], ◌∷◌, ◌++◌, length, Option, None, Some, IsSome, zero, suc, refl, sym, ap, subst, ◌∙◌, inl, inr, arith, count_by, get_or, eqb, eqb-true, eq-eqb, Contains}
+use Rattle.std.proofs.Common.{◌≡◌, ◌≢◌, ◌==◌, ◌⊎◌, ℕ, ◌+◌, ◌<◌, ◌≤◌, Bool, true, false, cond, Result, Ok, Err, OnOk, OnErr, List, [], ◌∷◌, ◌++◌, length, Option, None, Some, IsSome, zero, suc, refl, sym, ap, subst, ◌∙◌, inl, inr, arith, get_or, eqb, eq-eqb, Contains}
 use Rattle.std.proofs.lemmas.Bool.{ne_eqb, cases_eq}
 use Rattle.std.proofs.lemmas.List.Sums.{sum_by-cons, sum_by_push}
 use Rattle.std.specs.Ordering.{nat_cmp, eq_by_cmp, is_eq}
@@ -133,6 +133,17 @@ numbers_at-Contains lists hashes hash number is once at =
     let t = once hash number ∙ ap (λ m. one_at (map.get m number) hash) is ∙ ap (λ o. one_at o hash) at ∙ one_at-itself hash in
     Contains-times (numbers_at lists hash) number (omega (arith, t))
 
+one_at-le : (o : Option ℕ) (hash : ℕ) → one_at o hash ≤ 1
+one_at-le None hash = omega arith
+one_at-le (Some own) hash =
+    elim (cases_eq own hash) [
+      | inl is ↦ let unit : Bool → ℕ = λ b. cond b 1 0 in let t = ap unit (eq-eqb own hash is) in omega (arith, t)
+      | inr ne ↦ let unit : Bool → ℕ = λ b. cond b 1 0 in let t = ap unit (ne_eqb own hash ne) in omega (arith, t)
+    ]
+
+pub times-once : (lists : Lists) (hash number : ℕ) → IsListedOnce (hashes_of lists) lists → times number (numbers_at lists hash) ≤ 1
+times-once lists hash number once = let t = once hash number in let le = one_at-le (map.get (hashes_of lists) number) hash in omega (arith, t, le)
+
 unit-same : (n k : ℕ) → n ≡ k → ◌≡◌ {A = ℕ} (cond (eqb n k) 1 0) 1
 unit-same n k e = let unit : Bool → ℕ = λ b. cond b 1 0 in ap unit (eq-eqb n k e)
 
@@ -161,7 +172,7 @@ module _ (old new : Lists) (hashes : FinMap nat_cmp ℕ) (hash number : ℕ) (is
       elim (cases_eq h hash) [
         | inl at ↦
             let now : times r (numbers_at new h) ≡ times r (numbers_at old hash) + cond (eqb number r) 1 0 =
-                ap (λ k. times r (numbers_at new k)) at ∙ ap (times r) changed ∙ sum_by_push (λ x. cond (x == r) 1 0) (numbers_at old hash) number in
+            ap (λ k. times r (numbers_at new k)) at ∙ ap (times r) changed ∙ sum_by_push (λ x. cond (x == r) 1 0) (numbers_at old hash) number in
             let was = before hash r in
             elim (cases_eq r number) [
               | inl same ↦

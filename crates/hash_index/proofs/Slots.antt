@@ -1,5 +1,5 @@
 -- What slots say of the finite map that they stand for, and of an index of it.
-use Rattle.std.proofs.Common.{◌≡◌, ◌≢◌, ◌⊎◌, ℕ, zero, suc, ◌+◌, ◌<◌, Bool, true, false, cond, List, [], ◌∷◌, Option, None, Some, IsSome, is_some, refl, sym, ap, ◌∙◌, inl, inr, arith, count_by, get_or}
+use Rattle.std.proofs.Common.{◌≡◌, ◌≢◌, ℕ, zero, suc, ◌+◌, ◌<◌, Bool, true, false, cond, List, [], ◌∷◌, Option, None, Some, is_some, refl, sym, ap, ◌∙◌, inl, inr, arith, count_by}
 use Rattle.std.proofs.lemmas.Bool.{cases_eq}
 use Rattle.std.proofs.lemmas.List.Sums.{sum_by-cons}
 use Rattle.std.specs.Option.{option_map}
@@ -44,7 +44,7 @@ module _ {X : Type 0} where
   len_from at (Some x ∷ rest) =
       let fresh : map.get (map.from_entries {R = nat_cmp} (numbered_from (at + 1) rest)) at ≡ None = map.get-from_entries nat_cmp_total (numbered_from (at + 1) rest) at ∙ find_below (at + 1) at rest (omega arith) in
       let more = map.len-insert nat_cmp_total (map.from_entries {R = nat_cmp} (numbered_from (at + 1) rest)) at x
-          ∙ ap (λ o. cond (is_some o) (map.len (map.from_entries {R = nat_cmp} (numbered_from (at + 1) rest))) (map.len (map.from_entries {R = nat_cmp} (numbered_from (at + 1) rest)) + 1)) fresh in
+      ∙ ap (λ o. cond (is_some o) (map.len (map.from_entries {R = nat_cmp} (numbered_from (at + 1) rest))) (map.len (map.from_entries {R = nat_cmp} (numbered_from (at + 1) rest)) + 1)) fresh in
       let e = sum_by-cons (λ o. cond (is_some o) 1 0) (Some x) rest in
       let ih = len_from (at + 1) rest in
       omega (arith, more, e, ih)
@@ -61,15 +61,15 @@ module _ {X : Type 0} where
   pub numbered-insert : (old new : List (Option X)) (k : ℕ) (v : X) → Writes old new k (Some v) → numbered new ≡ map.insert (numbered old) k v
   numbered-insert old new k v writes =
       map.same_map nat_cmp_total nat_cmp-IsAntisymmetric _ _ (λ q. get-numbered new q ∙ by_key (λ b. slot_at new q ≡ cond b (Some v) (map.get (numbered old) q)) q k
-        (λ same. ap (slot_at new) same ∙ writes.changed)
-        (λ ne. writes.others q ne ∙ sym (get-numbered old q))
+      (λ same. ap (slot_at new) same ∙ writes.changed)
+      (λ ne. writes.others q ne ∙ sym (get-numbered old q))
       ∙ sym (map.get-insert nat_cmp_total (numbered old) k v q))
 
   pub numbered-remove : (old new : List (Option X)) (k : ℕ) → Writes old new k None → numbered new ≡ map.remove (numbered old) k
   numbered-remove old new k writes =
       map.same_map nat_cmp_total nat_cmp-IsAntisymmetric _ _ (λ q. get-numbered new q ∙ by_key (λ b. slot_at new q ≡ cond b None (map.get (numbered old) q)) q k
-        (λ same. ap (slot_at new) same ∙ writes.changed)
-        (λ ne. writes.others q ne ∙ sym (get-numbered old q))
+      (λ same. ap (slot_at new) same ∙ writes.changed)
+      (λ ne. writes.others q ne ∙ sym (get-numbered old q))
       ∙ sym (map.get-remove nat_cmp_total (numbered old) k q))
 
   module _ (hash_of : X → ℕ) where
@@ -80,15 +80,15 @@ module _ {X : Type 0} where
     IsIndexed-insert old new index k v indexed writes q =
         map.get-insert nat_cmp_total index k (hash_of v) q
         ∙ by_key (λ b. cond b (Some (hash_of v)) (map.get index q) ≡ option_map hash_of (slot_at new q)) q k
-          (λ same. sym (ap (λ z. option_map hash_of (slot_at new z)) same ∙ ap (option_map hash_of) writes.changed))
-          (λ ne. indexed q ∙ ap (option_map hash_of) (sym (writes.others q ne)))
+        (λ same. sym (ap (λ z. option_map hash_of (slot_at new z)) same ∙ ap (option_map hash_of) writes.changed))
+        (λ ne. indexed q ∙ ap (option_map hash_of) (sym (writes.others q ne)))
 
     pub IsIndexed-remove : (old new : List (Option X)) (index : FinMap nat_cmp ℕ) (k : ℕ) → IsIndexed hash_of old index → Writes old new k None → IsIndexed hash_of new (map.remove index k)
     IsIndexed-remove old new index k indexed writes q =
         map.get-remove nat_cmp_total index k q
         ∙ by_key (λ b. cond b None (map.get index q) ≡ option_map hash_of (slot_at new q)) q k
-          (λ same. sym (ap (λ z. option_map hash_of (slot_at new z)) same ∙ ap (option_map hash_of) writes.changed))
-          (λ ne. indexed q ∙ ap (option_map hash_of) (sym (writes.others q ne)))
+        (λ same. sym (ap (λ z. option_map hash_of (slot_at new z)) same ∙ ap (option_map hash_of) writes.changed))
+        (λ ne. indexed q ∙ ap (option_map hash_of) (sym (writes.others q ne)))
 
     -- something is written over by something with the same hash
     pub IsIndexed-same : (old new : List (Option X)) (index : FinMap nat_cmp ℕ) (k : ℕ) (v w : X) → IsIndexed hash_of old index → slot_at old k ≡ Some v → Writes old new k (Some w) → hash_of w ≡ hash_of v → IsIndexed hash_of new index

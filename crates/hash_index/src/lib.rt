@@ -3,16 +3,15 @@
 //! Contracts see a finite map from each number to the hash under which it is listed, and nothing of lists.
 #![tactic(auto)]
 
-ghost use Rattle.std.specs.Prelude.{◌≡◌, ◌↔◌, ℕ, ◌+◌, ◌++◌, ◌∷◌, [], ◌<◌, None, Some, OnOk, OnErr, length, slice_index};
+ghost use Rattle.std.specs.Prelude.{◌≡◌, ◌↔◌, ℕ, ◌+◌, ◌++◌, ◌∷◌, [], ◌<◌, ◌≤◌, None, Some, OnOk, OnErr, length, slice_index};
 ghost use Rattle.std.specs.List.{Contains};
 ghost use Rattle.std.specs.FinMap as map;
-ghost use Rattle.hash_index.specs.Index.{numbers_at, AreFull, Changes, TakesOne};
+ghost use Rattle.hash_index.specs.Index.{numbers_at, times, AreFull, Changes, TakesOne};
 
+use smallvec::SmallVec;
 use std::alloc::Global;
 use std::collections::BTreeMap;
 use std::marker::Model;
-
-use smallvec::SmallVec;
 use trie_depth::Memory;
 
 /// The numbers of one hash. Two lie inline, in the bytes that a longer list takes by itself.
@@ -52,7 +51,8 @@ impl HashIndex {
 
     /// The numbers under a hash, each once.
     pub fn numbers(&self, hash: u64) -> &[usize]
-        ensures { (number : ℕ) → Contains result.now number ↔ (map.get self.now number ≡ Some hash) }
+        ensures exactly { (number : ℕ) → Contains result.now number ↔ (map.get self.now number ≡ Some hash) }
+        ensures once { (number : ℕ) → times number result.now ≤ 1 }
     {
         numbers_under(&self.lists, hash)
     }

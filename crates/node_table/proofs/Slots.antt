@@ -1,12 +1,12 @@
 -- What the slots of a slab say of a table's rows.
-use Rattle.std.proofs.Common.{◌≡◌, ◌≢◌, ◌⊎◌, ◌↔◌, ℕ, zero, suc, ◌+◌, ◌-◌, ◌<◌, ◌≤◌, Bool, true, false, cond, List, [], ◌∷◌, length, Option, None, Some, IsSome, IfSome, is_some, Result, Ok, Err, is_err, OnOk, refl, sym, ap, subst, ◌∙◌, inl, inr, arith, count_by, get_or}
+use Rattle.std.proofs.Common.{◌≡◌, ℕ, false, List, [], Option, None, Some, IsSome, IfSome, Result, Ok, Err, is_err, OnOk, refl, sym, ap, subst, ◌∙◌, inl, inr, get_or}
 use Rattle.std.proofs.lemmas.Bool.{cases_eq}
 use Rattle.std.specs.Option.{option_map}
 use Rattle.std.specs.Ordering.{nat_cmp}
 use Rattle.std.specs.FinMap as map
 use Rattle.std.specs.FinMap.{FinMap}
 use Rattle.slab.specs.Slab.{Slab, Updates}
-use Rattle.hash_index.specs.Slots.{numbered, slot_at, Writes, IsIndexed}
+use Rattle.hash_index.specs.Slots.{slot_at, Writes}
 use Rattle.hash_index.proofs.Slots.{get-numbered, numbered-empty, numbered-insert, numbered-remove, IsIndexed-insert, IsIndexed-remove, IsIndexed-same}
 use Rattle.node_table.specs.Table.{Row, Table, row_at, with_row, without_row, empty_table, HasNoNode, HasDifferentNodes}
 use Rattle.node_table.specs.Slots.{table_of, IsSound}
@@ -59,22 +59,22 @@ module _ {N : Type 0} where
       record {
         indexed = λ q. ap (λ m. map.get m q) more ∙ IsIndexed-insert (λ (row : Row N). row.hash) old.slots new.slots index k v sound.indexed (writes old new k (Some v) up) q;
         different = λ p q row other at_p at_q same.
-          elim (cases_eq p k) [
-            | inl p_is ↦
-                elim (cases_eq q k) [
-                  | inl q_is ↦ p_is ∙ sym q_is
-                  | inr q_ne ↦
-                      let own = same_some v row (sym up.changed ∙ ap (λ z. get_or new.slots z None) (sym p_is) ∙ at_p) in
-                      absurd (fresh q other (at_slot old.slots table is q ∙ sym (up.others q q_ne) ∙ at_q) (sym same ∙ ap (λ (r : Row N). r.node) (sym own)))
-                ]
-            | inr p_ne ↦
-                elim (cases_eq q k) [
-                  | inl q_is ↦
-                      let own = same_some v other (sym up.changed ∙ ap (λ z. get_or new.slots z None) (sym q_is) ∙ at_q) in
-                      absurd (fresh p row (at_slot old.slots table is p ∙ sym (up.others p p_ne) ∙ at_p) (same ∙ ap (λ (r : Row N). r.node) (sym own)))
-                  | inr q_ne ↦ sound.different p q row other (sym (up.others p p_ne) ∙ at_p) (sym (up.others q q_ne) ∙ at_q) same
-                ]
-          ];
+            elim (cases_eq p k) [
+              | inl p_is ↦
+                  elim (cases_eq q k) [
+                    | inl q_is ↦ p_is ∙ sym q_is
+                    | inr q_ne ↦
+                        let own = same_some v row (sym up.changed ∙ ap (λ z. get_or new.slots z None) (sym p_is) ∙ at_p) in
+                        absurd (fresh q other (at_slot old.slots table is q ∙ sym (up.others q q_ne) ∙ at_q) (sym same ∙ ap (λ (r : Row N). r.node) (sym own)))
+                  ]
+              | inr p_ne ↦
+                  elim (cases_eq q k) [
+                    | inl q_is ↦
+                        let own = same_some v other (sym up.changed ∙ ap (λ z. get_or new.slots z None) (sym q_is) ∙ at_q) in
+                        absurd (fresh p row (at_slot old.slots table is p ∙ sym (up.others p p_ne) ∙ at_p) (same ∙ ap (λ (r : Row N). r.node) (sym own)))
+                    | inr q_ne ↦ sound.different p q row other (sym (up.others p p_ne) ∙ at_p) (sym (up.others q q_ne) ∙ at_q) same
+                  ]
+            ];
       }
 
   -- a row with its node and its hash, and another count
@@ -83,9 +83,9 @@ module _ {N : Type 0} where
       record {
         indexed = IsIndexed-same (λ (row : Row N). row.hash) old.slots new.slots index k v w sound.indexed was (writes old new k (Some w) up) hash;
         different = λ p q row other at_p at_q same.
-          let before_p = before p row at_p in
-          let before_q = before q other at_q in
-          sound.different p q before_p.0 before_q.0 before_p.1 before_q.1 (before_p.2 ∙ same ∙ sym before_q.2);
+            let before_p = before p row at_p in
+            let before_q = before q other at_q in
+            sound.different p q before_p.0 before_q.0 before_p.1 before_q.1 (before_p.2 ∙ same ∙ sym before_q.2);
       }
     where
       before : (q : ℕ) (row : Row N) → get_or new.slots q None ≡ Some row → (was : Row N) × (get_or old.slots q None ≡ Some was) × (was.node ≡ row.node)
@@ -103,7 +103,7 @@ module _ {N : Type 0} where
       record {
         indexed = λ q. ap (λ m. map.get m q) gone ∙ IsIndexed-remove (λ (row : Row N). row.hash) old.slots new.slots index k sound.indexed (writes old new k None up) q;
         different = λ p q row other at_p at_q same.
-          sound.different p q row other (before p row at_p) (before q other at_q) same;
+            sound.different p q row other (before p row at_p) (before q other at_q) same;
       }
     where
       before : (q : ℕ) (row : Row N) → get_or new.slots q None ≡ Some row → get_or old.slots q None ≡ Some row

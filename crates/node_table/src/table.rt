@@ -3,14 +3,12 @@ ghost use Rattle.std.specs.Prelude.{◌≡◌, ◌≢◌, ℕ, ◌+◌, ◌-◌,
 ghost use Rattle.std.specs.FinMap as map;
 ghost use Rattle.node_table.specs.Table.{empty_table, row_at, with_row, without_row, HasNoNode, HasNoNodeUnder, HasDifferentNodes};
 
-use std::alloc::Global;
-use std::marker::Model;
-
+use crate::count::Count;
 use hash_index::HashIndex;
 use slab::Slab;
+use std::alloc::Global;
+use std::marker::Model;
 use trie_depth::{Memory, Same};
-
-use crate::count::Count;
 
 #[derive(Drop)]
 pub struct Row<N> {

@@ -18,12 +18,19 @@ fn different_nodes_under_one_hash(rt: HostRuntime) -> Result<(), (Name, Memory)>
     let mut table = Table::new(rt.alloc());
     let first = table.add(Name(1), 0)?;
     let second = table.add(Name(2), 0)?;
-    let found = [(1, 0), (2, 0), (3, 0), (1, 1)].map(|(name, hash)| table.find_equal(&Name(name), hash));
+    let found = [(1, 0), (2, 0), (3, 0), (1, 1)].map(|(name, hash)| table.find_equal(
+        &Name(name),
+        hash,
+    ));
     assert_eq!(rt; found, [Some(first), Some(second), None, None]);
     let removed = table.remove(first).0;
     let left = (table.len(), table.count(second), table.node(second).0);
     assert_eq!(rt; (removed, left), (1, (1, 1, 2)));
-    let found = (table.find_equal(&Name(1), 0), table.find_equal(&Name(2), 0), table.next_row(0));
+    let found = (
+        table.find_equal(&Name(1), 0),
+        table.find_equal(&Name(2), 0),
+        table.next_row(0),
+    );
     assert_eq!(rt; found, (None, Some(second), Some(second)));
     Ok(())
 }
@@ -74,7 +81,13 @@ fn a_refused_add_is_made_again(rt: HostRuntime) -> Result<(), (Name, Memory)> {
 #[test]
 fn wide_counts(rt: HostRuntime) {
     let most = 1_267_650_600_228_229_401_496_703_205_376;
-    for count in [0, 1, 18_446_744_073_709_551_615, 18_446_744_073_709_551_616, most] {
+    for count in [
+        0,
+        1,
+        18_446_744_073_709_551_615,
+        18_446_744_073_709_551_616,
+        most,
+    ] {
         assert_eq!(rt; count::Count::of(count).get(), count);
     }
 }

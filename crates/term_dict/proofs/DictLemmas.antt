@@ -1,5 +1,5 @@
 -- What the places of a dictionary say of its Ids and terms.
-use Rattle.std.proofs.Common.{◌≡◌, ◌≢◌, ◌⊎◌, ℕ, ◌+◌, ◌<◌, ◌≤◌, ◌^◌, List, [], length, Option, None, Some, IsSome, is_some, refl, sym, ap, subst, ◌∙◌, inl, inr, arith, count_by, get_or}
+use Rattle.std.proofs.Common.{◌≡◌, ◌⊎◌, ℕ, ◌+◌, ◌<◌, ◌≤◌, ◌^◌, List, [], length, Option, None, Some, IsSome, is_some, sym, ap, subst, ◌∙◌, inl, inr, arith, count_by}
 use Rattle.std.proofs.lemmas.Bool.{cases_eq}
 use Rattle.std.proofs.lemmas.List.{get_or_past}
 use Rattle.std.specs.Option.{option_map}
@@ -8,8 +8,8 @@ use Rattle.std.specs.FinMap as map
 use Rattle.std.specs.FinMap.{FinMap}
 use native.Mathlib.Decide.{dec_lt}
 use Rattle.rdf_model.specs.Terms.{Term}
-use Rattle.hash_index.specs.Slots.{numbered, slot_at, Writes, IsIndexed}
-use Rattle.hash_index.proofs.Slots.{get-numbered, len-numbered, numbered-insert, numbered-remove, IsIndexed-insert, IsIndexed-remove}
+use Rattle.hash_index.specs.Slots.{numbered, slot_at, Writes}
+use Rattle.hash_index.proofs.Slots.{get-numbered, len-numbered, IsIndexed-insert, IsIndexed-remove}
 use Rattle.term_dict.specs.Dict.{Terms, IsNew, IsOneToOne, HasSmallIds, hash_of, IsSound}
 
 no_some : (t : Term) → None ≡ Some t → ⊥
@@ -61,22 +61,22 @@ IsSound-add old new index grown terms id term is sound fresh writes more few =
     record {
       indexed = λ q. ap (λ m. map.get m q) more ∙ IsIndexed-insert hash_of old new index id term sound.indexed writes q;
       different = λ p q other at_p at_q.
-        elim (cases_eq p id) [
-          | inl p_is ↦
-              elim (cases_eq q id) [
-                | inl q_is ↦ p_is ∙ sym q_is
-                | inr q_ne ↦
-                    let own : Some term ≡ Some other = sym writes.changed ∙ ap (slot_at new) (sym p_is) ∙ at_p in
-                    absurd (fresh q (at_slot old terms is q ∙ sym (writes.others q q_ne) ∙ at_q ∙ sym own))
-              ]
-          | inr p_ne ↦
-              elim (cases_eq q id) [
-                | inl q_is ↦
-                    let own : Some term ≡ Some other = sym writes.changed ∙ ap (slot_at new) (sym q_is) ∙ at_q in
-                    absurd (fresh p (at_slot old terms is p ∙ sym (writes.others p p_ne) ∙ at_p ∙ sym own))
-                | inr q_ne ↦ sound.different p q other (sym (writes.others p p_ne) ∙ at_p) (sym (writes.others q q_ne) ∙ at_q)
-              ]
-        ];
+          elim (cases_eq p id) [
+            | inl p_is ↦
+                elim (cases_eq q id) [
+                  | inl q_is ↦ p_is ∙ sym q_is
+                  | inr q_ne ↦
+                      let own : Some term ≡ Some other = sym writes.changed ∙ ap (slot_at new) (sym p_is) ∙ at_p in
+                      absurd (fresh q (at_slot old terms is q ∙ sym (writes.others q q_ne) ∙ at_q ∙ sym own))
+                ]
+            | inr p_ne ↦
+                elim (cases_eq q id) [
+                  | inl q_is ↦
+                      let own : Some term ≡ Some other = sym writes.changed ∙ ap (slot_at new) (sym q_is) ∙ at_q in
+                      absurd (fresh p (at_slot old terms is p ∙ sym (writes.others p p_ne) ∙ at_p ∙ sym own))
+                  | inr q_ne ↦ sound.different p q other (sym (writes.others p p_ne) ∙ at_p) (sym (writes.others q q_ne) ∙ at_q)
+                ]
+          ];
       few = few;
     }
 

@@ -1,10 +1,10 @@
 -- What contracts see of a dictionary: a finite map from the numbers of Ids to terms.
-use Rattle.std.specs.Prelude.{◌≡◌, ◌≢◌, ◌⊎◌, ℕ, ◌+◌, ◌<◌, ◌≤◌, ◌^◌, List, [], ◌∷◌, length, Option, None, Some, IsSome, codes}
+use Rattle.std.specs.Prelude.{◌≡◌, ◌≢◌, ◌⊎◌, ℕ, ◌<◌, ◌≤◌, ◌^◌, List, [], ◌∷◌, length, Option, None, Some, IsSome}
 use Rattle.std.specs.Ordering.{nat_cmp}
 use Rattle.std.specs.FinMap as map
 use Rattle.std.specs.FinMap.{FinMap}
 use Rattle.std.specs.Hash.FoldHasher as folding
-use Rattle.rdf_model.specs.Terms.{Text, Term, Iri, Blank, Literal, Kind, Typed, Tagged}
+use Rattle.rdf_model.specs.Terms.{Text, Term, Iri, Blank, Literal, Typed, Tagged}
 use Rattle.hash_index.specs.Slots.{slot_at, IsIndexed}
 
 abbrev pub Terms : Type 0

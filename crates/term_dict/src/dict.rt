@@ -4,16 +4,14 @@ ghost use Rattle.std.specs.FinMap as map;
 ghost use Rattle.rdf_term.specs.Seen.{lent_term};
 ghost use Rattle.term_dict.specs.Dict.{IsNew, IsOneToOne, HasSmallIds, Interns, texts_of, hash_of as hash_of_term};
 
+use crate::place::Place;
+use crate::places::Places;
+use hash_index::HashIndex;
+use rdf_term::{KindRef, TermRef, is_same_ref};
 use std::alloc::Global;
 use std::hash::{FoldHasher, Hasher};
 use std::marker::Model;
-
-use hash_index::HashIndex;
-use rdf_term::{KindRef, TermRef, is_same_ref};
 use trie_depth::{Id, Memory};
-
-use crate::place::Place;
-use crate::places::Places;
 
 /// Terms under Ids, each term under one.
 #[derive(Drop)]
@@ -62,7 +60,9 @@ impl Dict {
     /// The term's Id.
     pub fn find(&self, term: TermRef<'_>) -> Option<Id>
         ensures found { IfSome result (λ id. map.get self.now id.0 ≡ Some (lent_term term.entry)) }
+        ensures small { IfSome result (λ id. id.0 < 2 ^ 31) }
         ensures none { IsNone result → IsNew self.now (lent_term term.entry) }
+        ensures one { IsOneToOne self.now }
     {
         self.find_under(term, hash_of(term))
     }
@@ -81,6 +81,7 @@ impl Dict {
     /// The term's Id, which is a new one where the term has none. On `Memory` the dictionary is as before.
     pub fn intern(&mut self, term: TermRef<'_>) -> Result<Id, Memory>
         requires { map.len self.old < 2 ^ 31 }
+        ensures small { IfOk result (λ id. id.0 < 2 ^ 31) }
         ensures interned { IfOk result (λ id. Interns self.old self.new (lent_term term.entry) id.0) }
         ensures kept { OnErr result (self.new ≡ self.old) }
     {
@@ -113,7 +114,9 @@ impl Dict {
     fn find_under(&self, term: TermRef<'_>, hash: u64) -> Option<Id>
         requires { hash ≡ hash_of_term (lent_term term) }
         ensures found { IfSome result (λ id. map.get self.now id.0 ≡ Some (lent_term term.entry)) }
+        ensures small { IfSome result (λ id. id.0 < 2 ^ 31) }
         ensures none { IsNone result → IsNew self.now (lent_term term.entry) }
+        ensures one { IsOneToOne self.now }
     {
         for number in self.index.numbers(hash) {
             if self.holds(*number, term) {
@@ -127,6 +130,7 @@ impl Dict {
         requires hash { hash ≡ hash_of_term (lent_term term) }
         requires room { map.len self.old < 2 ^ 31 }
         requires absent { IsNew self.old (lent_term term) }
+        ensures small { IfOk result (λ id. id.0 < 2 ^ 31) }
         ensures fresh { IfOk result (λ id. map.get self.old id.0 ≡ None) }
         ensures added { IfOk result (λ id. self.new ≡ map.insert self.old id.0 (lent_term term.entry)) }
         ensures kept { OnErr result (self.new ≡ self.old) }

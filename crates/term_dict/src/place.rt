@@ -3,13 +3,11 @@ ghost use Rattle.std.specs.Prelude.{◌≡◌, IfOk, None, Some, MatchOption};
 ghost use Rattle.rdf_term.specs.Seen.{lent_term};
 ghost use Rattle.term_dict.specs.Places.{term_in};
 
-use std::alloc::Global;
-
+use crate::joined::Joined;
 use rdf_term::{KindRef, TermRef};
+use std::alloc::Global;
 use tn_io::Text;
 use trie_depth::Memory;
-
-use crate::joined::Joined;
 
 /// The datatype that costs no text (RDF 1.1 Concepts, section 5.1).
 const XSD_STRING: &str = "http://www.w3.org/2001/XMLSchema#string";

@@ -4,14 +4,12 @@ ghost use Rattle.hash_index.specs.Slots.{slot_at, Writes};
 ghost use Rattle.rdf_term.specs.Seen.{lent_term};
 ghost use Rattle.term_dict.specs.Places.{term_in};
 
+use crate::place::Place;
+use rdf_term::TermRef;
 use std::alloc::Global;
 use std::marker::Model;
 use std::mem;
-
-use rdf_term::TermRef;
 use trie_depth::Memory;
-
-use crate::place::Place;
 
 #[derive(Drop)]
 pub struct Places {

@@ -35,9 +35,15 @@ fn one_id_for_one_term(rt: HostRuntime) -> Result<(), Memory> {
     let again = put(&mut dict, a)?;
     assert_eq!(rt; (again, dict.len()), (first, 1));
     let second = put(&mut dict, iri)?;
-    assert_eq!(rt; (second == first, dict.find(a), dict.find(iri)), (false, Some(first), Some(second)));
+    assert_eq!(rt;
+        (second == first, dict.find(a), dict.find(iri)),
+        (false, Some(first), Some(second))
+    );
     take_out(&mut dict, a);
-    assert_eq!(rt; (dict.len(), dict.find(a), is_held(&dict, iri)), (1, None, true));
+    assert_eq!(rt;
+        (dict.len(), dict.find(a), is_held(&dict, iri)),
+        (1, None, true)
+    );
     assert_eq!(rt; put(&mut dict, TermRef::Blank("a"))?, first);
     Ok(())
 }

@@ -1,4 +1,4 @@
-use Rattle.std.proofs.Common.{◌≡◌, ℕ, Option, None, Some, List, sym, ◌∙◌, ap, subst, refl}
+use Rattle.std.proofs.Common.{◌≡◌, ℕ, Option, List, sym, ◌∙◌, ap, subst}
 use Rattle.slab.specs.Slab.{Slab}
 use Rattle.std.specs.FinMap as map
 use Rattle.node_table.specs.Table.{Row, with_row}

@@ -1,4 +1,4 @@
-use Rattle.std.proofs.Common.{sym, ◌∙◌, ap, refl}
+use Rattle.std.proofs.Common.{sym, ◌∙◌, ap}
 use Rattle.std.specs.Option.{option_copied}
 use Rattle.node_table.specs.Table.{Row}
 use Rattle.node_table.proofs.Slots.{at_slot, not_there, IfSome-at}
@@ -9,8 +9,7 @@ unreachable-requires g c =
     not_there _ c.requires (at_slot c.self.inside.rows.slots c.args.self.now c.self.view_is c.args.row ∙ sym c.get.ensures ∙ ap option_copied c.in-None.is)
 
 pub returns : goal.returns
-returns g c = IfSome-at _ (at_slot c.self.inside.rows.slots c.args.self.now c.self.view_is c.args.row ∙ sym c.get.ensures ∙ ap option_copied c.in-Some.is)
-    (
-      λ yes. ap (λ (r : Row g.row.N.Denot). r.node) (sym c.row.view_is) ∙ c.same.ensures.0 yes,
-      λ is. c.same.ensures.1 (ap (λ (r : Row g.row.N.Denot). r.node) c.row.view_is ∙ is),
-    )
+returns g c = IfSome-at _ (at_slot c.self.inside.rows.slots c.args.self.now c.self.view_is c.args.row ∙ sym c.get.ensures ∙ ap option_copied c.in-Some.is) (
+  λ yes. ap (λ (r : Row g.row.N.Denot). r.node) (sym c.row.view_is) ∙ c.same.ensures.0 yes,
+  λ is. c.same.ensures.1 (ap (λ (r : Row g.row.N.Denot). r.node) c.row.view_is ∙ is),
+)

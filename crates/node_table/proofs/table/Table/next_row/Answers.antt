@@ -1,4 +1,4 @@
-use Rattle.std.proofs.Common.{◌≡◌, ℕ, ◌<◌, ◌≤◌, None, sym, ◌∙◌, subst, refl, arith}
+use Rattle.std.proofs.Common.{◌≡◌, None, sym, ◌∙◌, subst, refl, arith}
 use Rattle.std.proofs.lemmas.List.{get_or_past}
 use Rattle.node_table.specs.Table.{row_at}
 use Rattle.node_table.proofs.Slots.{at_slot, IsSome-by, None-by}

@@ -1,4 +1,4 @@
-use Rattle.std.proofs.Common.{sym, ◌∙◌, ap, refl}
+use Rattle.std.proofs.Common.{sym, ◌∙◌, ap}
 use Rattle.std.specs.Option.{option_copied}
 use Rattle.node_table.specs.Table.{Row}
 use Rattle.node_table.proofs.Slots.{at_slot, not_there, IfSome-at}

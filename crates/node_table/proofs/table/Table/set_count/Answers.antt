@@ -2,7 +2,7 @@ use Rattle.std.proofs.Common.{◌≡◌, Some, None, get_or, sym, ◌∙◌, ap,
 use Rattle.std.specs.Option.{option_copied_mut}
 use Rattle.slab.specs.Slab.{with_value}
 use Rattle.slab.proofs.SlabLemmas.{Updates-with_value}
-use Rattle.node_table.specs.Table.{Row, row_at, with_row}
+use Rattle.node_table.specs.Table.{Row, with_row}
 use Rattle.node_table.proofs.Slots.{at_slot, not_there, IfSome-at, IsSome-by, IsSound-count, table_of-with_row}
 use Rattle.node_table.proofs.table.Table.set_count.Goals as goal
 

@@ -1,11 +1,11 @@
-use Rattle.std.proofs.Common.{◌≡◌, ℕ, List, Option, Some, sym, ap, subst, ◌∙◌}
+use Rattle.std.proofs.Common.{ℕ, List, Option, Some, sym, ap, subst, ◌∙◌}
 use Rattle.std.specs.FinMap as map
 use Rattle.rdf_model.specs.Terms.{Term}
 use Rattle.rdf_term.specs.Seen.{lent_term}
 use Rattle.hash_index.specs.Slots.{numbered, Writes}
 use Rattle.hash_index.proofs.Slots.{numbered-insert}
 use Rattle.term_dict.specs.Dict.{Terms, IsSound}
-use Rattle.term_dict.proofs.DictLemmas.{at_slot, IsSound-add, few_after}
+use Rattle.term_dict.proofs.DictLemmas.{at_slot, IsSound-add, few_after, next_is_small}
 use Rattle.term_dict.proofs.dict.Dict.add.Goals as goal
 
 pub invariant_of-self-2 : goal.invariant_of-self-2
@@ -29,3 +29,9 @@ returns-clause-added c =
     let writes = subst (λ (n : ℕ). Writes c.reserve.new.self.slots c.put.new.self.slots n (Some (lent_term c.args.term))) (sym c.next-number.ensures.value) held in
     numbered-insert c.reserve.new.self.slots c.put.new.self.slots c.next-number.result (lent_term c.args.term) writes
     ∙ ap (λ (t : Terms). map.insert t c.next-number.result (lent_term c.args.term)) (ap numbered c.reserve.ensures.slots ∙ c.self.view_is)
+
+pub returns-clause-small : goal.returns-clause-small
+returns-clause-small c =
+    let slots = c.reserve.ensures.slots in
+    let sound = subst (λ (s : List (Option Term)). IsSound s c.self.inside.index) (sym slots) c.self.invariant in
+    next_is_small c.reserve.new.self.slots c.self.inside.index c.args.self.now c.next-number.result (ap numbered slots ∙ c.self.view_is) sound c.requires.room c.next-number.ensures.least

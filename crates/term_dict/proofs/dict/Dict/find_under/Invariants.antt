@@ -1,4 +1,4 @@
-use Rattle.std.proofs.Common.{◌≡◌, ◌≢◌, ℕ, ◌<◌, Some, get_or}
+use Rattle.std.proofs.Common.{◌≢◌, ℕ, ◌<◌, Some, get_or}
 use Rattle.std.specs.FinMap as map
 use Rattle.rdf_term.specs.Seen.{lent_term}
 use Rattle.term_dict.proofs.dict.Dict.find_under.Given as goal

@@ -1,4 +1,4 @@
-use Rattle.std.proofs.Common.{◌≡◌, Some, IsSome, sym, ap, subst, ◌∙◌}
+use Rattle.std.proofs.Common.{Some, IsSome, sym, ap, subst, ◌∙◌}
 use Rattle.hash_index.proofs.Slots.{numbered-remove}
 use Rattle.std.specs.FinMap as map
 use Rattle.term_dict.specs.Dict.{Terms}

@@ -1,4 +1,4 @@
-use Rattle.std.proofs.Common.{◌≡◌, IsSome, subst, ◌∙◌}
+use Rattle.std.proofs.Common.{◌∙◌}
 use Rattle.term_dict.proofs.DictLemmas.{at_slot, not_there}
 use Rattle.term_dict.proofs.dict.Dict.term.Goals as goal
 

@@ -1,4 +1,3 @@
-use Rattle.std.proofs.Common.{Some, sym, ap, ◌∙◌, arith}
 use Rattle.std.proofs.lemmas.Option.{slice_get_within}
 use Rattle.term_dict.specs.declared.place.Place.TheVariants.{Vacant}
 use Rattle.term_dict.proofs.PlaceLemmas.{place_at, IsSound-vacate, Writes-set}

@@ -10,3 +10,5 @@ pub mod UnionLaws
 pub mod Tails
 pub mod IdSets
 pub mod SetInduction
+pub mod UnionSizes
+pub mod UnionHashes

@@ -29,13 +29,13 @@ module _ {A : Type 0} (R : A → A → Ordering) where
   pub tied-cons : (k x : A) (u t : List A) → eq_by_cmp (slice_cmp R) (k ∷ u) (x ∷ t) ≡ (eq_by_cmp R k x && eq_by_cmp (slice_cmp R) u t)
   tied-cons k x u t = is_eq-then (R k x) (slice_cmp R u t)
 
-  any-under : (k x : A) (u : List A) (ts : List (List A)) → list_any (eq_by_cmp (slice_cmp R) (k ∷ u)) (each (λ t. x ∷ t) ts) ≡ (eq_by_cmp R k x && list_any (eq_by_cmp (slice_cmp R) u) ts)
+  pub any-under : (k x : A) (u : List A) (ts : List (List A)) → list_any (eq_by_cmp (slice_cmp R) (k ∷ u)) (each (λ t. x ∷ t) ts) ≡ (eq_by_cmp R k x && list_any (eq_by_cmp (slice_cmp R) u) ts)
   any-under k x u [] = elim (eq_by_cmp R k x) as (λ b. false ≡ (b && false)) [ true ↦ refl | false ↦ refl ]
   any-under k x u (t ∷ ts) =
       (λ i. tied-cons k x u t i || any-under k x u ts i)
       ∙ elim (eq_by_cmp R k x) as (λ b. ((b && eq_by_cmp (slice_cmp R) u t) || (b && list_any (eq_by_cmp (slice_cmp R) u) ts)) ≡ (b && (eq_by_cmp (slice_cmp R) u t || list_any (eq_by_cmp (slice_cmp R) u) ts))) [ true ↦ refl | false ↦ refl ]
 
-  any-under_nil : (x : A) (ts : List (List A)) → list_any (eq_by_cmp (slice_cmp R) []) (each (λ t. x ∷ t) ts) ≡ false
+  pub any-under_nil : (x : A) (ts : List (List A)) → list_any (eq_by_cmp (slice_cmp R) []) (each (λ t. x ∷ t) ts) ≡ false
   any-under_nil x [] = refl
   any-under_nil x (t ∷ ts) = any-under_nil x ts
 

@@ -8,3 +8,4 @@ pub mod Quoted
 pub mod SmallInputs
 pub mod SmallLines
 pub mod Tags
+pub mod TermTexts

@@ -2,4 +2,5 @@ pub mod Characters
 pub mod Laws
 pub mod Line
 pub mod LineLaw
+pub mod TermText
 pub mod Terminals

@@ -4,6 +4,7 @@
 
 ghost use Rattle.ntriples_model.specs.Laws.{FindsLongest};
 ghost use Rattle.ntriples_model.specs.LineLaw.{SaysAsProductions};
+ghost use Rattle.ntriples_model.specs.TermText.{TextsStand};
 ghost use Rattle.ntriples_model.specs.Terminals.{IsIriRef, IsStringLiteral, IsBlankNodeLabel, IsLangTag, iri_at, string_at, label_at, tag_at};
 
 /// What is found at the front of some bytes is the longest terminal that begins them, and nothing where there is none.
@@ -17,4 +18,9 @@ pub fn terminals_by_productions()
 /// What is said of a line from its front is what the productions say of it.
 pub fn lines_by_productions()
     ensures { SaysAsProductions }
+{}
+
+/// Both texts of a term stand for the term again, where any text does; so does that of a label under a scope.
+pub fn texts_stand_for_their_terms()
+    ensures { TextsStand }
 {}

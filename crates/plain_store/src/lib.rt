@@ -1,15 +1,19 @@
 //! A plain set of triples, which contracts see as a graph.
 #![tactic(auto)]
 
-ghost use Rattle.std.specs.Prelude.{◌≡◌, IfOk, OnOk, OnErr, not, map};
+ghost use Rattle.std.specs.Prelude.{◌≡◌, IfOk, OnOk, OnErr, not, map, List};
+ghost use Rattle.rdf_model.specs.Terms as model;
+ghost use Rattle.rdf_model.specs.Texts.{dump_line};
+ghost use Rattle.rdf_model.specs.Dumps.{AreDumpLines, AreTriplesOf};
 ghost use Rattle.std.specs.FinSet as set;
 ghost use Rattle.rdf_term.specs.Seen.{triple_of};
 ghost use Rattle.rdf_model.specs.Graph.{with_all, without_all, added, gone};
 
-use rdf_term::Triple;
+use rdf_term::{Triple, canon_text};
 use std::alloc::Global;
 use std::collections::BTreeSet;
 use std::marker::Model;
+use tn_io::{Lines, Text};
 use trie_depth::Memory;
 
 /// How many triples a change added or took away, and how many there are now.
@@ -92,6 +96,26 @@ impl PlainStore {
         }
     }
 
+    /// The lines of all triples in N-Triples, sorted by their bytes.
+    pub fn dump(&self, alloc: Global) -> Result<Lines, Memory>
+        ensures { IfOk result (λ lines. AreDumpLines self.now lines) }
+    {
+        let mut texts = self.texts(alloc)?;
+        texts.sort_unstable();
+        in_lines(alloc, texts)
+    }
+
+    // The line of each triple, in the order of the store.
+    fn texts(&self, alloc: Global) -> Result<Vec<Text>, Memory>
+        ensures { IfOk result (λ texts. (triples : List model.Triple) × AreTriplesOf self.now triples × (texts.items ≡ map dump_line triples)) }
+    {
+        let mut texts = Vec::with_capacity(alloc, self.triples.len())?;
+        for triple in &self.triples {
+            texts.push(line_of(alloc, triple)?)?;
+        }
+        Ok(texts)
+    }
+
     // Takes the triples away one by one.
     fn take_out(&mut self, batch: Vec<Triple>)
         ensures { self.new ≡ without_all self.old (map triple_of batch.items) }
@@ -131,4 +155,28 @@ impl PlainStore {
         }
         Ok(())
     }
+}
+
+// The line of a triple, without its end.
+fn line_of(alloc: Global, triple: &Triple) -> Result<Text, Memory>
+    ensures { IfOk result (λ line. line ≡ dump_line (triple_of triple.now)) }
+{
+    let mut line = Text::new(alloc);
+    canon_text(alloc, triple.s.lent(), &mut line)?;
+    line.push(" ")?;
+    canon_text(alloc, triple.p.lent(), &mut line)?;
+    line.push(" ")?;
+    canon_text(alloc, triple.o.lent(), &mut line)?;
+    line.push(" .")?;
+    Ok(line)
+}
+
+fn in_lines(alloc: Global, texts: Vec<Text>) -> Result<Lines, Memory>
+    ensures { IfOk result (λ lines. lines ≡ texts.items) }
+{
+    let mut lines = Lines::new(alloc);
+    for text in texts {
+        lines.push(text)?;
+    }
+    Ok(lines)
 }

@@ -1,21 +1,13 @@
 -- What one command may do and answer, and a run of commands (docs/SCRIPT.md).
-use Rattle.std.specs.Prelude.{◌≡◌, ◌≢◌, ◌⊎◌, ℕ, ◌+◌, List, [], ◌∷◌, ◌++◌, Option, Some, None, option_map, map, IsPermutation}
-use Rattle.std.specs.List.Sorted.{IsSorted}
-use Rattle.std.specs.Ordering.{nat_cmp}
-use Rattle.std.specs.Cmp.Lexicographic.{slice_cmp}
+use Rattle.std.specs.Prelude.{◌≡◌, ◌≢◌, ◌⊎◌, ℕ, ◌+◌, List, [], ◌∷◌, ◌++◌, Option, Some, None, option_map}
 use Rattle.std.specs.FinSet as set
-use Rattle.rdf_model.specs.Terms.{Text, Triple}
-use Rattle.rdf_model.specs.Texts.{dump_line}
+use Rattle.rdf_model.specs.Terms.{Text}
+use Rattle.rdf_model.specs.Dumps.{AreDumpLines}
 use Rattle.rdf_model.specs.Graph.{Graph, with_all, without_all, added, gone}
 use Rattle.text_lines.specs.Lines.{Line}
 use Rattle.script_model.specs.Commands.{Change, Inserts, Deletes, Command, Block, Dump, Bad, Unended}
 use Rattle.run_model.specs.Answers.{Refusal, NoCommand, BadLine, NoMemory, EndInBlock, Answer, New, Gone, Dumped, Refused}
 use Rattle.run_model.specs.Blocks.{triples_of, first_bad}
-
--- the lines of all triples, sorted by their bytes
-pub record AreDumpLines (G : Graph) (lines : List Text) : Type 0 where
-  pub each : IsPermutation (map dump_line (set.items G)) lines
-  pub sorted : IsSorted (slice_cmp nat_cmp) lines
 
 -- the refusal of a command, or none; want of memory aside
 abbrev pub refusal_of : Command → Option Refusal

@@ -174,10 +174,14 @@ impl Block {
     }
 }
 
-fn dump(_store: &PlainStore) -> Answer
-    ensures { Step _store.now script.Dump _store.now (answer_of result) }
+// Answers the lines of the graph.
+fn dump(alloc: Global, store: &PlainStore) -> Answer
+    ensures { Step store.now script.Dump store.now (answer_of result) }
 {
-    Answer::Refused(Refusal::NoMemory)
+    match store.dump(alloc) {
+        Ok(lines) => Answer::Dumped(lines),
+        Err(_) => Answer::Refused(Refusal::NoMemory),
+    }
 }
 
 // Takes a line outside a block.
@@ -193,7 +197,7 @@ fn outside(alloc: Global, store: &PlainStore, line: Option<&[u8]>) -> (Place, Op
     match command(bytes) {
         Some(Command::Insert) => (Place::Inside(Block::new(alloc, Change::Insert)), None),
         Some(Command::Delete) => (Place::Inside(Block::new(alloc, Change::Delete)), None),
-        Some(Command::Dump) => (Place::Outside, Some(dump(store))),
+        Some(Command::Dump) => (Place::Outside, Some(dump(alloc, store))),
         None => (Place::Outside, Some(Answer::Refused(Refusal::NoCommand))),
     }
 }

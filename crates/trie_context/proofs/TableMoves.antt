@@ -11,7 +11,7 @@ use Rattle.trie_node.specs.declared.node.Node.{Node}
 use Rattle.trie_node.specs.Sets.{edges_of, hash_of_node}
 use Rattle.trie_context.specs.declared.tables.Tables.{Tables}
 use Rattle.trie_context.specs.Rows.{Rows, table_at, put_table, rows_at, row_of, set_of}
-use Rattle.trie_context.specs.Holds.{count_of, edges_from, holds_over, holds_of, one_at, at_depth, nothing, RowsStay, SameReserved}
+use Rattle.trie_context.specs.Holds.{count_of, edges_from, holds_over, holds_of, one_at, at_depth, nothing, CountsRiseBy, RowsStay, SameReserved}
 use Rattle.trie_context.specs.Kept.{IsNode, AllKept, AreKept, AreMoved}
 use Rattle.trie_context.specs.RowLaws.{counted, fair_at}
 use Rattle.trie_context.proofs.ChangeLemmas.{AreNext, put_rows, put_here, put_other, put_kept, put_holds, same_or_not, if_same, if_other}
@@ -183,6 +183,42 @@ module _ (mixed : ℕ → ℕ → ℕ → ℕ → ℕ) (t : Tables) (kept : AreK
       (edges_insert (rows_at t (suc j)) i (record { node = node; count = 1; hash = hash_of_node mixed node }) none))
       (at_depth (suc j) (one_at i)) (at_depth j (edges_of node))
       (λ d r. omega (arith, zero_at (suc j) d r, zero_at j d r)))) high none form fresh held)
+
+-- how far counts rise by a change of one row
+module _ (t : Tables) where
+  counts_put : (j : ℕ) → suc j ≤ 3 → (x : Table Node) → (most : ℕ → ℕ) → ((r : ℕ) → count_of (map.get x.rows r) ≤ count_of (row_of t (suc j) r) + most r) → CountsRiseBy t (put_table t (suc j) x) (at_depth (suc j) most)
+  counts_put j le x most here e r = same_or_not e (suc j) _
+      (λ is. subst (λ d. count_of (row_of (put_table t (suc j) x) d r) ≤ count_of (row_of t d r) + at_depth (suc j) most d r) (sym is)
+      (let a : count_of (row_of (put_table t (suc j) x) (suc j) r) ≡ count_of (map.get x.rows r) = ap (λ (y : Table Node). count_of (map.get y.rows r)) (here_put t j le x) in
+      let m = if_same (suc j) (suc j) (most r) 0 refl in let h = here r in omega arith))
+      (λ ne. let a : count_of (row_of (put_table t (suc j) x) e r) ≡ count_of (row_of t e r) = ap (λ (y : Table Node). count_of (map.get y.rows r)) (beside_put t (suc j) x e ne) in omega arith)
+
+  -- a row under i, with a count at most one or none above the old one
+  pub insert_counts : (k : ℕ) → 1 ≤ k → k ≤ 3 → (i : ℕ) (row : Row Node) → row.count ≤ count_of (row_of t k i) + 1 → CountsRiseBy t (put_table t k (with_row (table_at t k) i row)) (at_depth k (one_at i))
+  insert_counts k low high i row few = from_one (λ k. k ≤ 3 → row.count ≤ count_of (row_of t k i) + 1 → CountsRiseBy t (put_table t k (with_row (table_at t k) i row)) (at_depth k (one_at i))) k low
+      (λ j le few. counts_put j le _ (one_at i) (λ r. same_or_not r i _
+      (λ is. subst (λ q. count_of (map.get (map.insert (rows_at t (suc j)) i row) q) ≤ count_of (row_of t (suc j) q) + one_at i q) (sym is)
+      (let c : count_of (map.get (map.insert (rows_at t (suc j)) i row) i) ≡ row.count = ap count_of (get-insert_here total exact (rows_at t (suc j)) i row) in let o : one_at i i ≡ 1 = if_same i i 1 0 refl in omega arith))
+      (λ ne. let c : count_of (map.get (map.insert (rows_at t (suc j)) i row) r) ≡ count_of (row_of t (suc j) r) = ap count_of (get-insert_other total exact (rows_at t (suc j)) i row r ne) in omega arith))) high few
+
+  zero_counts : (k : ℕ) (u : Tables) → CountsRiseBy t u (at_depth k (λ _. 0)) → CountsRiseBy t u nothing
+  zero_counts k u rise d r = omega (arith, rise d r, zero_at k d r)
+
+  pub lower_counts : (k : ℕ) → 1 ≤ k → k ≤ 3 → (i : ℕ) (row : Row Node) → row.count ≤ count_of (row_of t k i) → CountsRiseBy t (put_table t k (with_row (table_at t k) i row)) nothing
+  lower_counts k low high i row few = from_one (λ k. k ≤ 3 → row.count ≤ count_of (row_of t k i) → CountsRiseBy t (put_table t k (with_row (table_at t k) i row)) nothing) k low
+      (λ j le few. zero_counts (suc j) (put_table t (suc j) (with_row (table_at t (suc j)) i row)) (counts_put j le _ (λ _. 0) (λ r. same_or_not r i _
+      (λ is. subst (λ q. count_of (map.get (map.insert (rows_at t (suc j)) i row) q) ≤ count_of (row_of t (suc j) q) + 0) (sym is)
+      (let c : count_of (map.get (map.insert (rows_at t (suc j)) i row) i) ≡ row.count = ap count_of (get-insert_here total exact (rows_at t (suc j)) i row) in omega arith))
+      (λ ne. let c : count_of (map.get (map.insert (rows_at t (suc j)) i row) r) ≡ count_of (row_of t (suc j) r) = ap count_of (get-insert_other total exact (rows_at t (suc j)) i row r ne) in omega arith)))) high few
+
+  pub drop_counts : (k : ℕ) → 1 ≤ k → k ≤ 3 → (i : ℕ) → CountsRiseBy t (put_table t k (without_row (table_at t k) i)) nothing
+  drop_counts k low high i = from_one (λ k. k ≤ 3 → CountsRiseBy t (put_table t k (without_row (table_at t k) i)) nothing) k low
+      (λ j le. zero_counts (suc j) (put_table t (suc j) (without_row (table_at t (suc j)) i)) (counts_put j le _ (λ _. 0) (λ r. same_or_not r i _
+      (λ is. let c : count_of (map.get (map.remove (rows_at t (suc j)) i) r) ≡ 0 = ap (λ q. count_of (map.get (map.remove (rows_at t (suc j)) i) q)) is ∙ ap count_of (get-remove_here total exact (rows_at t (suc j)) i) in omega arith)
+      (λ ne. let c : count_of (map.get (map.remove (rows_at t (suc j)) i) r) ≡ count_of (row_of t (suc j) r) = ap count_of (get-remove_other total exact (rows_at t (suc j)) i r ne) in omega arith)))) high
+
+pub counts_on : (t u v : Tables) (first second most : ℕ → ℕ → ℕ) → CountsRiseBy t u first → CountsRiseBy u v second → ((d r : ℕ) → first d r + second d r ≤ most d r) → CountsRiseBy t v most
+counts_on t u v first second most a b le d r = omega (arith, a d r, b d r, le d r)
 
 -- which rows there are after a change of one
 module _ (t : Tables) (k : ℕ) (low : 1 ≤ k) (high : k ≤ 3) (i : ℕ) where

@@ -35,6 +35,10 @@ at_depth d n e r = cond (nat_eq e d) (n r) 0
 abbrev pub HasRoom : Tables → Type 0
 HasRoom t = (d r : ℕ) (row : Row Node) → row_of t d r ≡ Some row → row.count < 2 ^ 100
 
+-- no count rose by more than this
+abbrev pub CountsRiseBy : Tables → Tables → (ℕ → ℕ → ℕ) → Type 0
+CountsRiseBy old new most = (d r : ℕ) → count_of (row_of new d r) ≤ count_of (row_of old d r) + most d r
+
 -- each row that was there is there with its node
 abbrev pub RowsStay : Tables → Tables → Type 0
 RowsStay old new = (d r : ℕ) (row : Row Node) → row_of old d r ≡ Some row → (now : Row Node) × (row_of new d r ≡ Some now) × (now.node ≡ row.node)

@@ -2,7 +2,7 @@
 ghost use Rattle.std.specs.Prelude.{◌≡◌, ◌≢◌, ℕ, ◌+◌, ◌-◌, ◌≤◌, Some, IsSome, IsNone, IfSome, IfOk, OnOk, OnErr};
 ghost use Rattle.trie_node.specs.Sets.{leads, edges_of};
 ghost use Rattle.trie_context.specs.Rows.{no_tables, row_of, node_of, node_set, set_of, LeadsToRow};
-ghost use Rattle.trie_context.specs.Holds.{holds_of, one_at, at_depth, nothing, HasRoom, RowsStay};
+ghost use Rattle.trie_context.specs.Holds.{holds_of, one_at, at_depth, nothing, HasRoom, CountsRiseBy, RowsStay};
 ghost use Rattle.trie_context.specs.Kept.{IsNode, AreKept, AreMoved};
 
 use crate::held::Held;
@@ -66,8 +66,10 @@ impl<M: Mix> Context<M> {
         requires room { HasRoom self.old }
         ensures there { IfOk result (λ k. node_of self.new L.DEPTH k ≡ Some node) }
         ensures moved { IfOk result (λ k. AreMoved M.mixed self.old self.new (at_depth L.DEPTH (one_at k)) (at_depth (L.DEPTH - 1) (edges_of node))) }
+        ensures counts { IfOk result (λ k. CountsRiseBy self.old self.new (at_depth L.DEPTH (one_at k))) }
         ensures stay { OnOk result (RowsStay self.old self.new) }
         ensures given { OnErr result (AreMoved M.mixed self.old self.new nothing (at_depth (L.DEPTH - 1) (edges_of node))) }
+        ensures fallen { OnErr result (CountsRiseBy self.old self.new nothing) }
         ensures came { OnErr result (RowsStay self.new self.old) }
         ensures ticks { interns.new ≡ interns.old + 1 }
     {
@@ -82,6 +84,7 @@ impl<M: Mix> Context<M> {
         requires room { HasRoom self.old }
         ensures same { result ≡ held.now }
         ensures moved { AreMoved M.mixed self.old self.new (at_depth L.DEPTH (one_at held.now)) nothing }
+        ensures counts { CountsRiseBy self.old self.new (at_depth L.DEPTH (one_at held.now)) }
         ensures stay { RowsStay self.old self.new }
         ensures ticks { retains.new ≡ retains.old + 1 }
     {
@@ -95,12 +98,14 @@ impl<M: Mix> Context<M> {
         requires there { LeadsToRow self.old (L.DEPTH - 1) edge }
         requires room { HasRoom self.old }
         ensures moved { AreMoved M.mixed self.old self.new (at_depth (L.DEPTH - 1) (leads edge)) nothing }
+        ensures counts { CountsRiseBy self.old self.new (at_depth (L.DEPTH - 1) (leads edge)) }
         ensures stay { RowsStay self.old self.new }
         ensures ticks { retains.new ≡ retains.old + 1 }
     {
         retains.tick();
-        if let Edge::Node(row) = edge {
-            retain_row::<M>(&mut self.tables, L::DEPTH - 1, row);
+        match edge {
+            Edge::Key(_) => {}
+            Edge::Node(row) => retain_row::<M>(&mut self.tables, L::DEPTH - 1, row),
         }
     }
 
@@ -108,6 +113,7 @@ impl<M: Mix> Context<M> {
     pub fn release<L: Level>(&mut self, held: Held<L>)
         requires held { 1 ≤ holds_of self.old L.DEPTH held }
         ensures moved { AreMoved M.mixed self.old self.new nothing (at_depth L.DEPTH (one_at held)) }
+        ensures counts { CountsRiseBy self.old self.new nothing }
         ensures came { RowsStay self.new self.old }
     {
         release_row::<M>(&mut self.tables, L::DEPTH, held.into_row());

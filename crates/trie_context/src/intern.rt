@@ -1,8 +1,8 @@
 //! A node put into its table, or found there.
-ghost use Rattle.std.specs.Prelude.{◌≡◌, ℕ, ◌-◌, ◌≤◌, IfOk, OnErr, Some, IsSome};
+ghost use Rattle.std.specs.Prelude.{◌≡◌, ℕ, ◌-◌, ◌≤◌, IfOk, OnOk, OnErr, Some, IsSome};
 ghost use Rattle.trie_node.specs.Sets.{edges_of};
 ghost use Rattle.trie_context.specs.Rows.{row_of, node_of, set_of};
-ghost use Rattle.trie_context.specs.Holds.{holds_of, one_at, at_depth, nothing, HasRoom, RowsStay};
+ghost use Rattle.trie_context.specs.Holds.{holds_of, one_at, at_depth, nothing, HasRoom, CountsRiseBy, RowsStay};
 ghost use Rattle.trie_context.specs.Kept.{IsNode, AreKept, AreMoved};
 
 use crate::release::release_edges;
@@ -21,21 +21,23 @@ pub fn intern_row<M: Mix>(tables: &mut Tables, depth: usize, node: Node) -> Resu
     requires room { HasRoom tables.old }
     ensures moved { IfOk result (λ k. AreMoved M.mixed tables.old tables.new (at_depth depth (one_at k)) (at_depth (depth - 1) (edges_of node))) }
     ensures there { IfOk result (λ k. node_of tables.new depth k ≡ Some node) }
-    ensures stay { IfOk result (λ k. RowsStay tables.old tables.new) }
+    ensures counts { IfOk result (λ k. CountsRiseBy tables.old tables.new (at_depth depth (one_at k))) }
+    ensures stay { OnOk result (RowsStay tables.old tables.new) }
     ensures given { OnErr result (AreMoved M.mixed tables.old tables.new nothing (at_depth (depth - 1) (edges_of node))) }
+    ensures fallen { OnErr result (CountsRiseBy tables.old tables.new nothing) }
     ensures came { OnErr result (RowsStay tables.new tables.old) }
 {
     let hash = node.hash_of::<M>();
     match tables.find_equal(depth, &node, hash) {
-        Some(row) => {
-            tables.bump(depth, row);
+        Some(found) => {
+            tables.bump(depth, found);
             release_edges::<M>(tables, depth - 1, &node);
-            Ok(row)
+            Ok(found)
         }
         None => match tables.add(depth, node, hash) {
             Ok(row) => Ok(row),
-            Err((node, memory)) => {
-                release_edges::<M>(tables, depth - 1, &node);
+            Err((unkept, memory)) => {
+                release_edges::<M>(tables, depth - 1, &unkept);
                 Err(memory)
             }
         },
@@ -50,6 +52,7 @@ pub fn retain_row<M: Mix>(tables: &mut Tables, depth: usize, row: usize)
     requires there { IsSome (row_of tables.old depth row) }
     requires room { HasRoom tables.old }
     ensures moved { AreMoved M.mixed tables.old tables.new (at_depth depth (one_at row)) nothing }
+    ensures counts { CountsRiseBy tables.old tables.new (at_depth depth (one_at row)) }
     ensures stay { RowsStay tables.old tables.new }
 {
     tables.bump(depth, row);

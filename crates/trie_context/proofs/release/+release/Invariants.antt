@@ -2,7 +2,7 @@ use Rattle.std.proofs.Common.{◌≡◌, ◌+◌, ◌-◌, ◌*◌, ◌^◌, ◌
 use Rattle.hypertrie_model.specs.Tails.{tail}
 use Rattle.trie_node.specs.Sets.{edges_in}
 use Rattle.trie_context.specs.Rows.{table_at}
-use Rattle.trie_context.specs.Holds.{at_depth, RowsStay}
+use Rattle.trie_context.specs.Holds.{at_depth, nothing, CountsRiseBy, RowsStay}
 use Rattle.trie_context.specs.Kept.{AreMoved}
 use Rattle.trie_context.proofs.release.+release.Given as goal
 
@@ -24,6 +24,7 @@ invariant-release_map-loop-key g l =
     AreMoved g.M.Mix.mixed l.fn.tables l.tables (at_depth l.depth (edges_in (tail l.edges l.from.0))) (at_depth l.depth (edges_in l.edges))
     × RowsStay l.tables l.fn.tables
     × ((d : ℕ) → l.depth < d → table_at l.tables d ≡ table_at l.fn.tables d)
+    × CountsRiseBy l.fn.tables l.tables nothing
 
 abbrev pub decreases-release_map-loop-key : goal.decreases-release_map-loop-key
 decreases-release_map-loop-key g l = 2 ^ 32 - l.from.0

@@ -82,20 +82,20 @@ module _ {A : Type 0} {R : A → A → Ordering} (o : IsTotalOrder R) (exact : I
   len-prefixed k = set_ind (lists_total o) (slice_cmp-IsAntisymmetric exact) (λ S. set.len (prefixed R k S) ≡ set.len S)
       (ap set.len (prefixed-empty k))
       (λ S t new ind.
-        ap set.len (prefixed-insert k S t)
-        ∙ set.len-insert (lists_total o) (prefixed R k S) (k ∷ t)
-        ∙ ap (λ b. cond b (set.len (prefixed R k S)) (set.len (prefixed R k S) + 1)) (not_prefixed k S t new)
-        ∙ ap (λ n. n + 1) ind
-        ∙ sym (set.len-insert (lists_total o) S t ∙ ap (λ b. cond b (set.len S) (set.len S + 1)) new))
+      ap set.len (prefixed-insert k S t)
+      ∙ set.len-insert (lists_total o) (prefixed R k S) (k ∷ t)
+      ∙ ap (λ b. cond b (set.len (prefixed R k S)) (set.len (prefixed R k S) + 1)) (not_prefixed k S t new)
+      ∙ ap (λ n. n + 1) ind
+      ∙ sym (set.len-insert (lists_total o) S t ∙ ap (λ b. cond b (set.len S) (set.len S + 1)) new))
 
   pub xor_over-prefixed : (k : A) (g : List A → ℕ) (S : TupleSet R) → xor_over (prefixed R k S) g ≡ xor_over S (λ t. g (k ∷ t))
   xor_over-prefixed k g = set_ind (lists_total o) (slice_cmp-IsAntisymmetric exact) (λ S. xor_over (prefixed R k S) g ≡ xor_over S (λ t. g (k ∷ t)))
       (ap (λ S. xor_over S g) (prefixed-empty k) ∙ xor_over-empty (lists_total o) (slice_cmp-IsAntisymmetric exact) g ∙ sym (xor_over-empty (lists_total o) (slice_cmp-IsAntisymmetric exact) (λ t. g (k ∷ t))))
       (λ S t new ind.
-        ap (λ T. xor_over T g) (prefixed-insert k S t)
-        ∙ xor_over-insert (lists_total o) (slice_cmp-IsAntisymmetric exact) (prefixed R k S) g (k ∷ t) (not_prefixed k S t new)
-        ∙ ap (bit_xor (g (k ∷ t))) ind
-        ∙ sym (xor_over-insert (lists_total o) (slice_cmp-IsAntisymmetric exact) S (λ u. g (k ∷ u)) t new))
+      ap (λ T. xor_over T g) (prefixed-insert k S t)
+      ∙ xor_over-insert (lists_total o) (slice_cmp-IsAntisymmetric exact) (prefixed R k S) g (k ∷ t) (not_prefixed k S t new)
+      ∙ ap (bit_xor (g (k ∷ t))) ind
+      ∙ sym (xor_over-insert (lists_total o) (slice_cmp-IsAntisymmetric exact) S (λ u. g (k ∷ u)) t new))
 
   -- one entry more
   module _ {X : Type 0} (m : FinMap R X) (f : X → TupleSet R) (k : A) (v : X) (new : map.get m k ≡ None) where
@@ -105,9 +105,9 @@ module _ {A : Type 0} {R : A → A → Ordering} (o : IsTotalOrder R) (exact : I
       either x u = by_key o exact (λ b. has_under f (cond b (Some v) (map.get m x)) u ≡ (has_under f (map.get m x) u || (b && has (f v) u))) x k
           (λ is. sym (ap (λ r. has_under f r u || has (f v) u) (ap (map.get m) is ∙ new)))
           (λ ne. sym (or-false (has_under f (map.get m x) u))) where
-        or-false : (b : Bool) → (b || false) ≡ b
-        or-false true = refl
-        or-false false = refl
+            or-false : (b : Bool) → (b || false) ≡ b
+            or-false true = refl
+            or-false false = refl
 
       at : (q : List A) → has (union_over (map.insert m k v) f) q ≡ has (set.union (union_over m f) (prefixed R k (f v))) q
       at [] =

@@ -126,13 +126,13 @@ len-with_all G (t ∷ ts) =
     let S : Graph = set.from_list ts in
     let rest = len-with_all G ts in
     let new : set.len (with_all G (t ∷ ts)) ≡ cond (set.contains G t || set.contains S t) (set.len (with_all G ts)) (set.len (with_all G ts) + 1) =
-        ap set.len (union_insert S G t) ∙ set.len-insert triples_total (set.union G S) t ∙ ap (λ b. cond b (set.len (with_all G ts)) (set.len (with_all G ts) + 1)) (set.contains-union triples_total G S t) in
+    ap set.len (union_insert S G t) ∙ set.len-insert triples_total (set.union G S) t ∙ ap (λ b. cond b (set.len (with_all G ts)) (set.len (with_all G ts) + 1)) (set.contains-union triples_total G S t) in
     elim (set.contains G t) as (λ g. set.contains G t ≡ g → set.len (with_all G (t ∷ ts)) ≡ cond (g || set.contains S t) (set.len (with_all G ts)) (set.len (with_all G ts) + 1) → set.len (with_all G (t ∷ ts)) ≡ set.len G + added G (t ∷ ts)) [
       | true ↦ λ g e. let same : added G (t ∷ ts) ≡ added G ts = ap set.len (difference_in S G t g) in omega arith
       | false ↦ λ g e.
           let more : added G (t ∷ ts) ≡ cond (set.contains S t) (added G ts) (added G ts + 1) =
-              ap set.len (difference_out S G t g) ∙ set.len-insert triples_total (set.difference S G) t
-              ∙ ap (λ b. cond b (added G ts) (added G ts + 1)) (set.contains-difference triples_total S G t ∙ ap (λ b. set.contains S t && not b) g ∙ and_all (set.contains S t)) in
+          ap set.len (difference_out S G t g) ∙ set.len-insert triples_total (set.difference S G) t
+          ∙ ap (λ b. cond b (added G ts) (added G ts + 1)) (set.contains-difference triples_total S G t ∙ ap (λ b. set.contains S t && not b) g ∙ and_all (set.contains S t)) in
           elim (set.contains S t) as (λ s. set.len (with_all G (t ∷ ts)) ≡ cond s (set.len (with_all G ts)) (set.len (with_all G ts) + 1) → added G (t ∷ ts) ≡ cond s (added G ts) (added G ts + 1) → set.len (with_all G (t ∷ ts)) ≡ set.len G + added G (t ∷ ts)) [
             | true ↦ λ a b. omega arith
             | false ↦ λ a b. omega arith
@@ -146,13 +146,13 @@ len-without_all G (t ∷ ts) =
     let S : Graph = set.from_list ts in
     let rest = len-without_all G ts in
     let left : set.len (without_all G (t ∷ ts)) ≡ cond (set.contains G t && not (set.contains S t)) (set.len (without_all G ts) - 1) (set.len (without_all G ts)) =
-        ap set.len (difference_insert S G t) ∙ set.len-remove triples_total (set.difference G S) t ∙ ap (λ b. cond b (set.len (without_all G ts) - 1) (set.len (without_all G ts))) (set.contains-difference triples_total G S t) in
+    ap set.len (difference_insert S G t) ∙ set.len-remove triples_total (set.difference G S) t ∙ ap (λ b. cond b (set.len (without_all G ts) - 1) (set.len (without_all G ts))) (set.contains-difference triples_total G S t) in
     elim (set.contains G t) as (λ g. set.contains G t ≡ g → set.len (without_all G (t ∷ ts)) ≡ cond (g && not (set.contains S t)) (set.len (without_all G ts) - 1) (set.len (without_all G ts)) → set.len (without_all G (t ∷ ts)) + gone G (t ∷ ts) ≡ set.len G) [
       | false ↦ λ g e. let same : gone G (t ∷ ts) ≡ gone G ts = ap set.len (intersection_out S G t g) in omega arith
       | true ↦ λ g e.
           let more : gone G (t ∷ ts) ≡ cond (set.contains S t) (gone G ts) (gone G ts + 1) =
-              ap set.len (intersection_in S G t g) ∙ set.len-insert triples_total (set.intersection S G) t
-              ∙ ap (λ b. cond b (gone G ts) (gone G ts + 1)) (set.contains-intersection triples_total S G t ∙ ap (λ b. set.contains S t && b) g ∙ and_all (set.contains S t)) in
+          ap set.len (intersection_in S G t g) ∙ set.len-insert triples_total (set.intersection S G) t
+          ∙ ap (λ b. cond b (gone G ts) (gone G ts + 1)) (set.contains-intersection triples_total S G t ∙ ap (λ b. set.contains S t && b) g ∙ and_all (set.contains S t)) in
           elim (set.contains S t) as (λ s. set.contains S t ≡ s → set.len (without_all G (t ∷ ts)) ≡ cond (not s) (set.len (without_all G ts) - 1) (set.len (without_all G ts)) → gone G (t ∷ ts) ≡ cond s (gone G ts) (gone G ts + 1) → set.len (without_all G (t ∷ ts)) + gone G (t ∷ ts) ≡ set.len G) [
             | true ↦ λ s a b. omega arith
             | false ↦ λ s a b.

@@ -70,7 +70,7 @@ takes_more before now s t q read none under same ahead ended room full fewer = r
       let all : take max taken ≡ taken = take_all max taken (omega arith) in
       let front : take max (taken ++ q) ≡ taken ++ take s.left q = take_front max taken q s.left was in
       let bytes : (rest : List ℕ) → take max (taken ++ q) ++ rest ≡ take max taken ++ (t.ahead ++ rest) =
-          (λ rest. ap (λ z. z ++ rest) front ∙ append_assoc taken (take s.left q) rest ∙ ap (λ z. taken ++ (z ++ rest)) (sym ahead) ∙ ap (λ z. z ++ (t.ahead ++ rest)) (sym all)) in
+      (λ rest. ap (λ z. z ++ rest) front ∙ append_assoc taken (take s.left q) rest ∙ ap (λ z. taken ++ (z ++ rest)) (sym ahead) ∙ ap (λ z. z ++ (t.ahead ++ rest)) (sym all)) in
       record {
         open_yet = ended ∙ h.open_yet;
         whole = λ rest. ap whole_lines_of (bytes rest) ∙ h.whole (t.ahead ++ rest) ∙ ap (λ z. ls ++ whole_to_come s.cutter (z ++ (t.ahead ++ rest))) none ∙ ap (λ c. ls ++ whole_to_come c (t.ahead ++ rest)) (sym same);
@@ -119,9 +119,13 @@ module _ (before now : Option (List ℕ)) (s t : State) (takes : Takes before no
       ap whole_lines_of (sym (append-nil (take max (taken ++ takes.q)))) ∙ h.whole [] ∙ ap (λ z. ls ++ whole_to_come t.cutter (z ++ [])) none ∙ ap (λ z. ls ++ z) left ∙ append-nil ls
 
   pub fails : t.ahead ≡ [] → t.over ≡ false → whole_to_come t.cutter [] ≡ [] → NextLine before now s t (Err Read)
-  fails none under left = record { q = takes.q; read = takes.read; tells = λ max taken ls. by_open max taken ls _ (λ h.
-      let all = all_within max taken ls under h in
-      (ap whole_lines_of (sym all.1) ∙ whole_told max taken ls none left h, all.0)) }
+  fails none under left = record {
+    q = takes.q;
+    read = takes.read;
+    tells = λ max taken ls. by_open max taken ls _ (λ h.
+        let all = all_within max taken ls under h in
+        (ap whole_lines_of (sym all.1) ∙ whole_told max taken ls none left h, all.0));
+  }
 
   pub too_long : t.ahead ≡ [] → t.over ≡ true → whole_to_come t.cutter [] ≡ [] → NextLine before now s t (Err TooLong)
   too_long none over left = record { q = takes.q; read = takes.read; tells = λ max taken ls. by_open max taken ls _ (λ h. (whole_told max taken ls none left h, h.full over)) }
@@ -133,9 +137,16 @@ module _ (before now : Option (List ℕ)) (s t : State) (takes : Takes before no
         ap lines_of (sym all.1 ∙ sym (append-nil (take max (taken ++ takes.q)))) ∙ h.lines [] ∙ ap (λ z. ls ++ to_come t.cutter (z ++ [])) none ∙ ap (λ z. ls ++ z) is
 
     pub last_is : (r : Option Cut) → to_come t.cutter [] ≡ told r u.cutter → NextLine before now s u (Ok r)
-    last_is None is = record { q = takes.q; read = takes.read; tells = λ max taken ls. by_open max taken ls _ (λ h.
-        (lines_told max taken ls [] is h ∙ append-nil ls, (all_within max taken ls under h).0, at_end)) }
-    last_is (Some cut) is = record { q = takes.q; read = takes.read; tells = λ max taken ls. by_open max taken ls _ (λ h. inr (record {
+    last_is None is = record {
+      q = takes.q;
+      read = takes.read;
+      tells = λ max taken ls. by_open max taken ls _ (λ h.
+          (lines_told max taken ls [] is h ∙ append-nil ls, (all_within max taken ls under h).0, at_end));
+    }
+    last_is (Some cut) is = record {
+      q = takes.q;
+      read = takes.read;
+      tells = λ max taken ls. by_open max taken ls _ (λ h. inr (record {
         closed = ended;
         at_end = at_end;
         lines = lines_told max taken ls (line_told cut u.cutter ∷ []) is h;
@@ -146,7 +157,8 @@ module _ (before now : Option (List ℕ)) (s t : State) (takes : Takes before no
             let last : not_yet u.ended ≡ 0 = ap not_yet ended in
             let same : length u.ahead ≡ length t.ahead = ap length ahead in
             omega (arith, length-append ls (line_told cut u.cutter ∷ []));
-      })) }
+      }));
+    }
 
 -- after the last line nothing is read
 pub ended_is : (left : Option (List ℕ)) (s : State) → s.ended ≡ true → NextLine left left s s (Ok None)
@@ -159,7 +171,7 @@ ended_is left s ended = record { q = []; read = prepend_none left; tells = tells
 pub at_start_is : (max : ℕ) (left : Option (List ℕ)) → HasTold max left (at_start max) [] []
 at_start_is max left = inl (record {
   open_yet = refl;
-  whole = λ rest. ap (λ z. whole_lines_of (z ++ rest)) (none max) ;
+  whole = λ rest. ap (λ z. whole_lines_of (z ++ rest)) (none max);
   lines = λ rest. ap (λ z. lines_of (z ++ rest)) (none max);
   room = λ _. omega arith;
   full = λ e. absurd (let t : ⊥ = cc in t);
@@ -196,11 +208,11 @@ none_ahead at end xs ys within none =
 pub read_ahead : (n k : ℕ) (buf post : List ℕ) → n ≤ k → k ≤ length buf → take (n - 0) (drop 0 (buf ++ post)) ≡ take n (take k buf)
 read_ahead n k buf post le within =
     ap (λ m. take m (buf ++ post)) (let e : n - 0 ≡ n = omega arith in e) ∙ take-append-le n buf post (omega arith) ∙ sym (take_of_take n k buf le) where
-  take_of_take : (n k : ℕ) (xs : List ℕ) → n ≤ k → take n (take k xs) ≡ take n xs
-  take_of_take zero k xs h = refl
-  take_of_take (suc n) zero xs h = absurd (omega arith)
-  take_of_take (suc n) (suc k) [] h = refl
-  take_of_take (suc n) (suc k) (x ∷ xs) h = ap (λ z. x ∷ z) (take_of_take n k xs (omega arith))
+      take_of_take : (n k : ℕ) (xs : List ℕ) → n ≤ k → take n (take k xs) ≡ take n xs
+      take_of_take zero k xs h = refl
+      take_of_take (suc n) zero xs h = absurd (omega arith)
+      take_of_take (suc n) (suc k) [] h = refl
+      take_of_take (suc n) (suc k) (x ∷ xs) h = ap (λ z. x ∷ z) (take_of_take n k xs (omega arith))
 
 pub never : {P : Type 0} (b : Bool) → b ≡ false → b ≡ true → P
 never b e f = absurd (let t : ⊥ = cc in t)
@@ -215,11 +227,11 @@ module _ (before now : Option (List ℕ)) (s v : State) (is : v ≡ s) (count : 
       let same = read_ahead v.left count buf post (omega arith) within in
       let t : State = record { cutter = v.cutter; ahead = take (v.left - 0) (drop 0 (buf ++ post)); left = 0; over = true; ended = v.ended } in
       subst (λ u. Takes before now u t) is (takes_more before now v t (take count buf) read (ap (λ u. u.ahead) is ∙ none) (ap (λ u. u.over) is ∙ under) refl same refl
-        (λ e. never true e refl) (λ _. omega (arith, all_of)) (omega (arith, ap length same, length-take v.left (take count buf))))
+      (λ e. never true e refl) (λ _. omega (arith, all_of)) (omega (arith, ap length same, length-take v.left (take count buf))))
 
   pub refill_more : count ≤ v.left → Takes before now s (record { cutter = v.cutter; ahead = take (count - 0) (drop 0 (buf ++ post)); left = v.left - count; over = v.over; ended = v.ended })
   refill_more few =
       let same = read_ahead count count buf post (omega arith) within ∙ take_all count (take count buf) (omega (arith, all_of)) ∙ sym (take_all v.left (take count buf) (omega (arith, all_of))) in
       let t : State = record { cutter = v.cutter; ahead = take (count - 0) (drop 0 (buf ++ post)); left = v.left - count; over = v.over; ended = v.ended } in
       subst (λ u. Takes before now u t) is (takes_more before now v t (take count buf) read (ap (λ u. u.ahead) is ∙ none) (ap (λ u. u.over) is ∙ under) refl same refl
-        (λ _. omega (arith, all_of)) (λ e. never v.over (ap (λ u. u.over) is ∙ under) e) (omega (arith, all_of, ap length same, length-take v.left (take count buf))))
+      (λ _. omega (arith, all_of)) (λ e. never v.over (ap (λ u. u.over) is ∙ under) e) (omega (arith, all_of, ap length same, length-take v.left (take count buf))))

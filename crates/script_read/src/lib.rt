@@ -4,7 +4,6 @@
 mod form;
 mod reading;
 mod script;
-
 #[cfg(test)]
 mod tests;
 

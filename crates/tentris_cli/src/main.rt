@@ -6,9 +6,8 @@ mod standard;
 use plain_store::PlainStore;
 use standard::{Input, Output};
 use std::alloc::AllocError;
-use std::env;
-use std::io;
 use std::process::ExitCode;
+use std::{env, io};
 use tentris_core::{Status, run};
 
 // The words after the program's name.
@@ -39,13 +38,7 @@ fn carry_out(rt: &HostRuntime) -> Status {
     let mut store = PlainStore::new(rt.alloc());
     let mut source = Input::new(rt.stdin());
     let mut sink = Output::new(rt.stdout());
-    run(
-        rt.alloc(),
-        &words,
-        &mut store,
-        &mut source,
-        &mut sink,
-    )
+    run(rt.alloc(), &words, &mut store, &mut source, &mut sink)
 }
 
 // The line on standard error for a status, if it has one.

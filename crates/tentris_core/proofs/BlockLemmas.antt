@@ -68,7 +68,6 @@ refused_block change body (cause.BadLine n) G h = inr (inl (answers.BadLine n, a
 refused_block change body cause.NoMemory G h = out_of_memory change body G
 refused_block change body cause.EndInBlock G h = absurd h
 
-
 -- a block of triples that are added
 pub inserted : (body : List Line) (ts : List model.Triple) (G H : Graph) (changed now : ℕ) → first_bad 1 body ≡ None → ts ≡ triples_of body → H ≡ with_all G ts → changed ≡ added G ts → now ≡ set.len H
     → Step G (script.Block script.Inserts body) H (answers.New changed now)

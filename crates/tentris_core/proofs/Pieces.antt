@@ -32,8 +32,8 @@ module _ {X : Type 0} (f : X → List ℕ) where
       let piece = f (get_or xs i d) in
       let rest = flat_map f (drop (i + 1) xs) in
       subst (Begins w)
-          (append_known-append (append_known a front) piece rest ∙ append_known-append a front (piece ++ rest) ∙ ap (append_known a) (sym (append_assoc front piece rest) ∙ sym (joined_rest xs i d h)))
-          (begins_more w (append_known (append_known a front) piece) rest (subst (λ z. Begins w (append_known z piece)) e g))
+      (append_known-append (append_known a front) piece rest ∙ append_known-append a front (piece ++ rest) ∙ ap (append_known a) (sym (append_assoc front piece rest) ∙ sym (joined_rest xs i d h)))
+      (begins_more w (append_known (append_known a front) piece) rest (subst (λ z. Begins w (append_known z piece)) e g))
 
 -- the same text in other words
 pub puts_same : {K : Type 0} {written : K → Option (List ℕ)} {faults : K → ℕ} {old new : Out K} {result : Result (Unit {0}) Failed} (t u : List ℕ) → t ≡ u → Puts written faults old new result t → Puts written faults old new result u

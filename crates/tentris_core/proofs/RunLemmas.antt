@@ -46,7 +46,6 @@ all_is : {K : Type 0} (written : K → Option (List ℕ)) (o : Out K) → o.buff
 all_is written o empty = ap (append_known (written o.sink.now)) empty ∙ append_none (written o.sink.now)
 
 module _ {K : Type 0} {written : K → Option (List ℕ)} {faults : K → ℕ} {old mid : Out K} (text : List ℕ) (empty : old.buffer ≡ []) where
-
   -- an answer was cut off while it was put
   pub pass_cut : (done result : Result (Unit {0}) Failed) (e f : Failed) → done ≡ Err e → result ≡ Err f → Puts written faults old mid done text → PassesOn written faults old mid result text
   pass_cut done result e f is same p =
@@ -220,9 +219,9 @@ module _ (max : ℕ) (G M : Graph) (l0 l1 : Option (List ℕ)) (s : State) (spot
         wrote = h.wrote;
         refusals = h.refusals;
       } where
-    none_left : (p : Position) → IsAt p place.Outside → commands_from p [] ≡ []
-    none_left Outside a = refl
-    none_left (Inside change body) a = absurd a
+        none_left : (p : Position) → IsAt p place.Outside → commands_from p [] ≡ []
+        none_left Outside a = refl
+        none_left (Inside change body) a = absurd a
 
   -- the script ends inside a block
   module _ (l2 : Option (List ℕ)) (t : State) (block : Block) (is : spot ≡ place.Inside block) (n : NextLine l1 l2 s t (Ok None)) where
@@ -332,11 +331,17 @@ module _ (max : ℕ) (G M : Graph) (l0 l1 : Option (List ℕ)) (s : State) (spot
         by : HasTold max l2 t (h.taken ++ n.q) (h.told ++ line_told cut t.cutter ∷ []) → AreAllowed max (h.taken ++ n.q) l2 (h.commands ++ k.leads.0 ∷ [])
         by (inl o) =
             let more = whole_to_come t.cutter (t.ahead ++ []) in
-            inl (filter is_closed (commands_from k.next more),
+            inl (
+              filter is_closed (commands_from k.next more),
               ap closed_commands_of (ap whole_lines_of (sym (append-nil (take max (h.taken ++ n.q)))) ∙ o.whole []) ∙ ap (filter is_closed) (next_are more)
-              ∙ filter_front (h.commands ++ k.leads.0 ∷ []) (commands_from k.next more) (all_more h.commands k.leads.0 h.closed k.leads.1))
-        by (inr o) = inr (o.at_end, o.within, commands_from k.next [],
-            ap commands_of (o.lines ∙ sym (append-nil (h.told ++ line_told cut t.cutter ∷ []))) ∙ next_are [])
+                  ∙ filter_front (h.commands ++ k.leads.0 ∷ []) (commands_from k.next more) (all_more h.commands k.leads.0 h.closed k.leads.1),
+            )
+        by (inr o) = inr (
+          o.at_end,
+          o.within,
+          commands_from k.next [],
+          ap commands_of (o.lines ∙ sym (append-nil (h.told ++ line_told cut t.cutter ∷ []))) ∙ next_are [],
+        )
 
   -- the script ends, wherever it stands
   pub run_finishes : {K : Type 0} (written : K → Option (List ℕ)) (old new : Out K) (l2 : Option (List ℕ)) (t : State) (status : Status) → NextLine l1 l2 s t (Ok None) → now ≡ written old.sink.now

@@ -9,7 +9,6 @@ ghost use Rattle.std.specs.declared.option.Option.{Option};
 ghost use Rattle.rdf_model.specs.Terms as model;
 ghost use Rattle.run_model.specs.Blocks.{triples_said};
 ghost use Rattle.text_lines.specs.Lines.{Line};
-
 ghost use Rattle.script_model.specs.Commands as script;
 ghost use Rattle.run_model.specs.Steps.{Step};
 ghost use Rattle.tentris_core.specs.Seen.{answer_of};

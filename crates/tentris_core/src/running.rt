@@ -182,12 +182,5 @@ pub fn run<S: Source, K: Sink>(
         return Status::Memory;
     };
     let mut out = Out::new(sink);
-    carry_out(
-        alloc,
-        &mut script,
-        &mut scratch,
-        store,
-        source,
-        &mut out,
-    )
+    carry_out(alloc, &mut script, &mut scratch, store, source, &mut out)
 }

@@ -121,7 +121,11 @@ fn scripts_have_their_answers(rt: HostRuntime) -> Result<(), Fail> {
     for (name, script, want, status, triples) in cases {
         for piece in 1..=64usize {
             let got = run_in_pieces(rt.alloc(), script.as_bytes(), piece, 0, 0)?;
-            assert_eq!(rt; got.written.as_slice(), want.as_bytes(), "{name}, in pieces of {piece}");
+            assert_eq!(rt;
+                got.written.as_slice(),
+                want.as_bytes(),
+                "{name}, in pieces of {piece}"
+            );
             assert_eq!(rt; got.status, status, "{name}, in pieces of {piece}");
             assert_eq!(rt; got.triples, triples, "{name}, in pieces of {piece}");
         }
@@ -152,7 +156,10 @@ fn long_lines(rt: HostRuntime) -> Result<(), Fail> {
     script.resize(1_048_577, b' ')?;
     script.extend_from_slice(b"\nINSERT\nGO\n")?;
     let got = run_in_pieces(alloc, script.as_slice(), 8192, 0, 0)?;
-    assert_eq!(rt; got.written.as_slice(), b"refused 1 command\nok new 0 now 0\n".as_slice());
+    assert_eq!(rt;
+        got.written.as_slice(),
+        b"refused 1 command\nok new 0 now 0\n".as_slice()
+    );
     Ok(())
 }
 

@@ -3,7 +3,8 @@ use crate::harness::run_in_pieces;
 use std::test::Fail;
 use tentris_core::Status;
 
-const SCRIPT: &[u8] = b"INSERT\n<x:a> <x:p> <x:b> .\n<x:a> <x:p> <x:c> .\nGO\nDELETE\n<x:a> <x:p> <x:b> .\nGO\nINSERT\n<x:a> .\nGO\n";
+const SCRIPT: &[u8] =
+    b"INSERT\n<x:a> <x:p> <x:b> .\n<x:a> <x:p> <x:c> .\nGO\nDELETE\n<x:a> <x:p> <x:b> .\nGO\nINSERT\n<x:a> .\nGO\n";
 
 const ANSWERS: &[u8] = b"ok new 2 now 2\nok gone 1 now 1\nrefused 3 line 1\n";
 
@@ -22,9 +23,17 @@ fn a_read_fails(rt: HostRuntime) -> Result<(), Fail> {
                 }
             }
             let got = run_in_pieces(rt.alloc(), SCRIPT, piece, call, 0)?;
-            assert_eq!(rt; got.status, Status::ReadFault, "call {call} in pieces of {piece}");
+            assert_eq!(rt;
+                got.status,
+                Status::ReadFault,
+                "call {call} in pieces of {piece}"
+            );
             assert!(rt; answered <= ANSWERS.len());
-            assert_eq!(rt; got.written.as_slice(), &ANSWERS[..answered], "call {call} in pieces of {piece}");
+            assert_eq!(rt;
+                got.written.as_slice(),
+                &ANSWERS[..answered],
+                "call {call} in pieces of {piece}"
+            );
         }
     }
     Ok(())

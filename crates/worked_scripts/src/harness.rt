@@ -25,16 +25,8 @@ pub fn run_in_pieces(
     requires { 0 < piece }
 {
     let mut store = PlainStore::new(alloc);
-    let mut source = MemSource::new(
-        script.to_vec(alloc)?,
-        piece,
-        [failing_read].to_vec(alloc)?,
-    );
-    let mut sink = MemSink::new(
-        alloc,
-        piece,
-        [failing_write].to_vec(alloc)?,
-    );
+    let mut source = MemSource::new(script.to_vec(alloc)?, piece, [failing_read].to_vec(alloc)?);
+    let mut sink = MemSink::new(alloc, piece, [failing_write].to_vec(alloc)?);
     let status = run(alloc, &[], &mut store, &mut source, &mut sink);
     Ok(Outcome {
         status,

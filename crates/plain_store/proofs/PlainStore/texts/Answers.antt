@@ -16,7 +16,8 @@ lent_lines (t ∷ ts) = ap (λ z. dump_line (triple_of t.now) ∷ z) (lent_lines
 pub returns : goal.returns
 returns c =
     let keys = c.self.inside.triples.keys in
-    let e : map deref c.loop-triple.yielded ≡ keys = search (rules, iter_end) in
-    (map triple_of keys,
+    let e : map deref c.loop-triple.yielded ≡ keys = search (rules, iter_end) in (
+      map triple_of keys,
       record { all = c.self.view_is; once = length-map keys triple_of ∙ sym (graph_len keys c.len.ensures.ordered) ∙ ap set.len c.self.view_is },
-      c.loop-triple.invariant ∙ lent_lines c.loop-triple.yielded ∙ ap (λ z. map dump_line (map triple_of z)) e)
+      c.loop-triple.invariant ∙ lent_lines c.loop-triple.yielded ∙ ap (λ z. map dump_line (map triple_of z)) e,
+    )

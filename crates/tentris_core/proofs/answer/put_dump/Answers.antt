@@ -18,5 +18,5 @@ returns-clause-put g c =
     let lines = flat_map line_text c.args.lines.now in
     puts_same _ _
     (ap (λ z. lines ++ z) (number_joined (codes "ok dump ") c.as_bytes-count.result.now (decimal (length c.args.lines.now)) (codes "\n") (c.as_bytes-count.ensures.value ∙ c.format.ensures.text ∙ ap decimal c.len.ensures))
-        ∙ sym (ap (λ z. z ++ codes "\n") (append_assoc lines (codes "ok dump ") (decimal (length c.args.lines.now))) ∙ append_assoc lines (codes "ok dump " ++ decimal (length c.args.lines.now)) (codes "\n")))
+    ∙ sym (ap (λ z. z ++ codes "\n") (append_assoc lines (codes "ok dump ") (decimal (length c.args.lines.now))) ∙ append_assoc lines (codes "ok dump " ++ decimal (length c.args.lines.now)) (codes "\n")))
     (puts_both c.put_lines.result c.put_pieces.result _ lines _ c.in_ok-put_lines.was c.put_lines.ensures.put c.put_pieces.ensures.put)

@@ -10,8 +10,11 @@ pub returns-in-Some-Insert : goal.returns-in-Some-Insert
 returns-in-Some-Insert c = record {
   next = Inside script.Inserts [];
   is_at = c.new.ensures;
-  leads = (refl, λ rest. subst (λ o. commands_from Outside (lent_line o ∷ rest) ≡ script.inside script.Inserts [] rest) (sym c.in-Some.is)
-      (begins_block (Some c.in-Some.bytes.now) script.Inserts c.if-skipped.ensures (ap (λ f. Some (form_meant f)) (sym c.in-Some-Insert.field-0-is) ∙ c.in-Some-Insert.ensures) rest));
+  leads = (
+    refl,
+    λ rest. subst (λ o. commands_from Outside (lent_line o ∷ rest) ≡ script.inside script.Inserts [] rest) (sym c.in-Some.is)
+        (begins_block (Some c.in-Some.bytes.now) script.Inserts c.if-skipped.ensures (ap (λ f. Some (form_meant f)) (sym c.in-Some-Insert.field-0-is) ∙ c.in-Some-Insert.ensures) rest),
+  );
   had = omega arith;
 }
 
@@ -19,7 +22,10 @@ pub returns-in-Some-Delete : goal.returns-in-Some-Delete
 returns-in-Some-Delete c = record {
   next = Inside script.Deletes [];
   is_at = c.new-in-Some-Delete.ensures;
-  leads = (refl, λ rest. subst (λ o. commands_from Outside (lent_line o ∷ rest) ≡ script.inside script.Deletes [] rest) (sym c.in-Some.is)
-      (begins_block (Some c.in-Some.bytes.now) script.Deletes c.if-skipped.ensures (ap (λ f. Some (form_meant f)) (sym c.in-Some-Delete.field-0-is) ∙ c.in-Some-Delete.ensures) rest));
+  leads = (
+    refl,
+    λ rest. subst (λ o. commands_from Outside (lent_line o ∷ rest) ≡ script.inside script.Deletes [] rest) (sym c.in-Some.is)
+        (begins_block (Some c.in-Some.bytes.now) script.Deletes c.if-skipped.ensures (ap (λ f. Some (form_meant f)) (sym c.in-Some-Delete.field-0-is) ∙ c.in-Some-Delete.ensures) rest),
+  );
   had = omega arith;
 }

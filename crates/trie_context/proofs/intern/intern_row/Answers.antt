@@ -83,11 +83,11 @@ returns-in-Some-clause-counts g c =
     let f = found t c.bump.new.self c.args.depth c.in-Some.found c.args.node (some_row t c.args.depth c.in-Some.found c.in-Some.ensures.there) c.in-Some.ensures.equal c.bump.ensures in
     let few : f.row.count + 1 ≤ count_of (row_of t c.args.depth c.in-Some.found) + 1 = let counted : count_of (row_of t c.args.depth c.in-Some.found) ≡ f.row.count = ap count_of f.at in omega arith in
     counts_on t c.bump.new.self c.release_edges.new.tables (at_depth c.args.depth (one_at c.in-Some.found)) nothing (at_depth c.args.depth (one_at c.in-Some.found))
-      (subst (λ u. CountsRiseBy t u (at_depth c.args.depth (one_at c.in-Some.found))) (sym f.is) (insert_counts t c.args.depth c.requires.low c.requires.high c.in-Some.found (record f.row { count = f.row.count + 1 }) few))
-      c.release_edges.ensures.counts (λ d r. omega arith)
+    (subst (λ u. CountsRiseBy t u (at_depth c.args.depth (one_at c.in-Some.found))) (sym f.is) (insert_counts t c.args.depth c.requires.low c.requires.high c.in-Some.found (record f.row { count = f.row.count + 1 }) few))
+    c.release_edges.ensures.counts (λ d r. omega arith)
 
 pub returns-in-Ok-clause-counts : goal.returns-in-Ok-clause-counts
 returns-in-Ok-clause-counts g c =
     let t = c.args.tables.now in
     subst (λ u. CountsRiseBy t u (at_depth c.args.depth (one_at c.in-Ok.row))) (sym c.in-Ok.ensures.added)
-      (insert_counts t c.args.depth c.requires.low c.requires.high c.in-Ok.row (record { node = c.args.node; count = 1; hash = c.hash_of-hash.result }) (omega arith))
+    (insert_counts t c.args.depth c.requires.low c.requires.high c.in-Ok.row (record { node = c.args.node; count = 1; hash = c.hash_of-hash.result }) (omega arith))

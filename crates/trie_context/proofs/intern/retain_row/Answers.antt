@@ -26,4 +26,4 @@ returns-clause-counts g c =
     let s = some_row t c.args.depth c.args.row c.requires.there in
     let few : s.0.count + 1 ≤ count_of (row_of t c.args.depth c.args.row) + 1 = let counted : count_of (row_of t c.args.depth c.args.row) ≡ s.0.count = ap count_of s.1 in omega arith in
     subst (λ u. CountsRiseBy t u (at_depth c.args.depth (one_at c.args.row))) (sym (if_at (λ r. c.bump.new.self ≡ put_table t c.args.depth (with_row (table_at t c.args.depth) c.args.row (record r { count = r.count + 1 }))) (row_of t c.args.depth c.args.row) s.1 c.bump.ensures))
-      (insert_counts t c.args.depth c.requires.low c.requires.high c.args.row (record s.0 { count = s.0.count + 1 }) few)
+    (insert_counts t c.args.depth c.requires.low c.requires.high c.args.row (record s.0 { count = s.0.count + 1 }) few)

@@ -100,11 +100,11 @@ release_row-returns-then-count-gt-LAST-clause-counts g t c =
     let s = there_row tables c.args.depth c.args.row c.requires.held in
     let few : s.0.count - 1 ≤ count_of at = let counted : count_of at ≡ s.0.count = ap count_of s.1 in omega arith in
     subst (λ u. CountsRiseBy tables u nothing) (sym (if_at (λ r. c.lower.new.self ≡ put_table tables c.args.depth (with_row (table_at tables c.args.depth) c.args.row (record r { count = r.count - 1 }))) at s.1 c.lower.ensures))
-      (lower_counts tables c.args.depth c.requires.low c.requires.high c.args.row (record s.0 { count = s.0.count - 1 }) few)
+    (lower_counts tables c.args.depth c.requires.low c.requires.high c.args.row (record s.0 { count = s.0.count - 1 }) few)
 
 pub release_row-returns-else-count-gt-LAST-clause-counts : goal.release_row-returns-else-count-gt-LAST-clause-counts
 release_row-returns-else-count-gt-LAST-clause-counts g t c =
     let tables = c.args.tables.now in
     counts_on tables c.remove-node.new.self c.release_edges.new.tables nothing nothing nothing
-      (subst (λ u. CountsRiseBy tables u nothing) (sym c.remove-node.ensures.gone) (drop_counts tables c.args.depth c.requires.low c.requires.high c.args.row))
-      c.release_edges.ensures.counts (λ d r. omega arith)
+    (subst (λ u. CountsRiseBy tables u nothing) (sym c.remove-node.ensures.gone) (drop_counts tables c.args.depth c.requires.low c.requires.high c.args.row))
+    c.release_edges.ensures.counts (λ d r. omega arith)

@@ -1,2 +1,3 @@
 pub mod DictLemmas
+pub mod InternLemmas
 pub mod PlaceLemmas

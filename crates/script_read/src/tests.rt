@@ -1,5 +1,7 @@
-//! What lines command.
-use super::{Command, command, skipped};
+//! What lines command, and a script that is longer than it may be.
+use super::{Command, Script, ScriptFault, command, skipped};
+use std::test::Fail;
+use tn_io::{Cut, MemSource};
 
 #[test]
 fn commands_of_lines(rt: HostRuntime) {
@@ -40,4 +42,26 @@ fn skipped_lines(rt: HostRuntime) {
     for (line, want) in lines {
         assert_eq!(rt; skipped(line), want);
     }
+}
+
+#[test]
+fn script_too_long(rt: HostRuntime) -> Result<(), Fail> {
+    let alloc = rt.alloc();
+    for piece in 1..=10usize {
+        let bytes = b"DUMP\nDUMP\n".to_vec(alloc)?;
+        let mut source = MemSource::new(bytes, piece, Vec::new(alloc));
+        let mut script = Script::new(alloc, 5)?;
+        let first = script.next_line(&mut source);
+        assert!(rt;
+            matches!(first, Ok(Some(Cut::Whole))),
+            "in pieces of {piece}"
+        );
+        assert_eq!(rt; script.line(), b"DUMP".as_slice());
+        let second = script.next_line(&mut source);
+        assert!(rt;
+            matches!(second, Err(ScriptFault::TooLong)),
+            "in pieces of {piece}"
+        );
+    }
+    Ok(())
 }

@@ -84,6 +84,8 @@ impl Dict {
         ensures small { IfOk result (λ id. id.0 < 2 ^ 31) }
         ensures interned { IfOk result (λ id. Interns self.old self.new (lent_term term.entry) id.0) }
         ensures kept { OnErr result (self.new ≡ self.old) }
+        // Only a new term takes memory.
+        ensures new { OnErr result (IsNew self.old (lent_term term.entry)) }
     {
         let hash = hash_of(term);
         if let Some(id) = self.find_under(term, hash) {

@@ -3,3 +3,5 @@ pub mod RowChanges
 pub mod TableMoves
 pub mod ReleaseLemmas
 pub mod InternLemmas
+pub mod WorkedExample
+pub mod ExampleSteps

@@ -134,7 +134,7 @@ module _ (mixed : ℕ → ℕ → ℕ → ℕ → ℕ) where
         table : {x y : Table Node} → x.rows ≡ y.rows → y.reserved ≡ x.reserved → x ≡ y
         table rows res = λ i. record { rows = rows i; reserved = sym res i }
 
-empty_at : (d : ℕ) → rows_at no_tables d ≡ map.empty
+pub empty_at : (d : ℕ) → rows_at no_tables d ≡ map.empty
 empty_at zero = refl
 empty_at (suc zero) = refl
 empty_at (suc (suc zero)) = refl

@@ -10,6 +10,8 @@ mod held;
 mod intern;
 mod release;
 mod tables;
+#[cfg(test)]
+mod tests;
 
 pub use context::Context;
 pub use held::Held;

@@ -263,3 +263,10 @@ module _ (old new : Lists) (hashes : FinMap nat_cmp ℕ) (hash number : ℕ) (is
   pub IsSound-added : {T E : Type 0} (r : Result T E) → OnOk r (Changes old new hash (numbers_at old hash ++ number ∷ [])) → OnErr r (Changes old new hash (numbers_at old hash)) → IsSound new
   IsSound-added (Ok x) changes _ = IsSound-by new _ (listed_more changes) (changes.full sound.full)
   IsSound-added (Err e) _ changes = IsSound-by new _ (listed_same changes) (changes.full sound.full)
+
+-- what an index has after an addition, for its callers
+pub get-added : (old new : FinMap nat_cmp ℕ) (number hash : ℕ) → new ≡ map.insert old number hash → map.get new number ≡ Some hash
+get-added old new number hash is = ap (λ m. map.get m number) is ∙ get-insert_here old number hash number refl
+
+pub get-added_other : (old new : FinMap nat_cmp ℕ) (number hash other : ℕ) → new ≡ map.insert old number hash → other ≢ number → map.get new other ≡ map.get old other
+get-added_other old new number hash other is ne = ap (λ m. map.get m other) is ∙ get-insert_other old number hash other ne

@@ -32,8 +32,8 @@ pub few_at : (d k e r : ℕ) → at_depth d (one_at k) e r ≤ 1
 few_at d k e r = same_or_not e d _
     (λ is. let a = if_same e d (one_at k r) 0 is in let b = few k r in omega arith)
     (λ ne. let a = if_other e d (one_at k r) 0 ne in omega arith) where
-  few : (k r : ℕ) → one_at k r ≤ 1
-  few k r = same_or_not r k _ (λ is. let a : one_at k r ≡ 1 = if_same r k 1 0 is in omega arith) (λ ne. let a : one_at k r ≡ 0 = if_other r k 1 0 ne in omega arith)
+      few : (k r : ℕ) → one_at k r ≤ 1
+      few k r = same_or_not r k _ (λ is. let a : one_at k r ≡ 1 = if_same r k 1 0 is in omega arith) (λ ne. let a : one_at k r ≡ 0 = if_other r k 1 0 ne in omega arith)
 
 abbrev pub AreFew : Tables → ℕ → Type 0
 AreFew t n = (d r : ℕ) → count_of (row_of t d r) ≤ n
@@ -78,26 +78,29 @@ module _ (low high : Id) (rise : low.0 < high.0) where
       let none = sum_over-empty total exact f in
       let turn = turned k r in
       omega arith where
-    turned : (n r : ℕ) → leads (ToRow n) r ≡ one_at n r
-    turned n r = same_or_not n r _ (λ is. if_same n r 1 0 is ∙ sym (if_same r n 1 0 (sym is))) (λ ne. if_other n r 1 0 ne ∙ sym (if_other r n 1 0 (λ is. ne (sym is))))
+        turned : (n r : ℕ) → leads (ToRow n) r ≡ one_at n r
+        turned n r = same_or_not n r _ (λ is. if_same n r 1 0 is ∙ sym (if_same r n 1 0 (sym is))) (λ ne. if_other n r 1 0 ne ∙ sym (if_other r n 1 0 (λ is. ne (sym is))))
 
 module _ (t u : Tables) (k : ℕ) where
   -- a key set put in
   pub put_keys : (n : ℕ → ℕ) → AreMoved zero_mix t u (at_depth 1 (one_at k)) (at_depth 0 n) → (r : ℕ) → (holds_of u 1 r ≡ holds_of t 1 r + one_at k r) × (holds_of u 2 r ≡ holds_of t 2 r)
-  put_keys n m r =
-      (omega (arith, m.holds 1 r, at_here 1 (one_at k) r, at_other 0 n 1 r (λ is. omega arith)),
-       omega (arith, m.holds 2 r, at_other 1 (one_at k) 2 r (λ is. omega arith), at_other 0 n 2 r (λ is. omega arith)))
+  put_keys n m r = (
+    omega (arith, m.holds 1 r, at_here 1 (one_at k) r, at_other 0 n 1 r (λ is. omega arith)),
+    omega (arith, m.holds 2 r, at_other 1 (one_at k) 2 r (λ is. omega arith), at_other 0 n 2 r (λ is. omega arith)),
+  )
 
   pub held_again : AreMoved zero_mix t u (at_depth 1 (one_at k)) nothing → (r : ℕ) → (holds_of u 1 r ≡ holds_of t 1 r + one_at k r) × (holds_of u 2 r ≡ holds_of t 2 r)
-  held_again m r =
-      (omega (arith, m.holds 1 r, at_here 1 (one_at k) r),
-       omega (arith, m.holds 2 r, at_other 1 (one_at k) 2 r (λ is. omega arith)))
+  held_again m r = (
+    omega (arith, m.holds 1 r, at_here 1 (one_at k) r),
+    omega (arith, m.holds 2 r, at_other 1 (one_at k) 2 r (λ is. omega arith)),
+  )
 
   -- a node of pairs put in
   pub put_pairs : (n : ℕ → ℕ) → AreMoved zero_mix t u (at_depth 2 (one_at k)) (at_depth 1 n) → (r : ℕ) → (holds_of u 1 r + n r ≡ holds_of t 1 r) × (holds_of u 2 r ≡ holds_of t 2 r + one_at k r)
-  put_pairs n m r =
-      (omega (arith, m.holds 1 r, at_here 1 n r, at_other 2 (one_at k) 1 r (λ is. omega arith)),
-       omega (arith, m.holds 2 r, at_here 2 (one_at k) r, at_other 1 n 2 r (λ is. omega arith)))
+  put_pairs n m r = (
+    omega (arith, m.holds 1 r, at_here 1 n r, at_other 2 (one_at k) 1 r (λ is. omega arith)),
+    omega (arith, m.holds 2 r, at_here 2 (one_at k) r, at_other 1 n 2 r (λ is. omega arith)),
+  )
 
   pub given_pairs : (n : ℕ → ℕ) → AreMoved zero_mix t u nothing (at_depth 1 n) → (r : ℕ) → holds_of u 2 r ≡ holds_of t 2 r
   given_pairs n m r = omega (arith, m.holds 2 r, at_other 1 n 2 r (λ is. omega arith))

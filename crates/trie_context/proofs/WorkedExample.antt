@@ -50,7 +50,6 @@ module _ (low high : Id) where
   pair_node first k = Full 2 0 (pair_map first k) (back_map first) map.empty
 
 module _ (low high : Id) (rise : low.0 < high.0) where
-
   no_low : map.get (map.insert (map.empty {X = Edge} {R = nat_cmp}) high.0 (Key high)) low.0 ≡ None
   no_low = get-insert_other total exact map.empty high.0 (Key high) low.0 (λ is. omega arith) ∙ map.get-empty nat_cmp low.0
 
@@ -67,16 +66,16 @@ module _ (low high : Id) (rise : low.0 < high.0) where
   keys_are k e at = by_key total exact (λ _. e ≡ Key (record { 0 = k })) k low.0
       (λ is. same_edge (Key low) e (sym (get-insert_here total exact (map.insert map.empty high.0 (Key high)) low.0 (Key low)) ∙ ap (map.get (key_map low high)) (sym is) ∙ at) ∙ ap Key (same_id low k (sym is)))
       (λ ne. by_key total exact (λ _. e ≡ Key (record { 0 = k })) k high.0
-        (λ is. same_edge (Key high) e (sym (get-insert_here total exact map.empty high.0 (Key high)) ∙ ap (map.get (map.insert map.empty high.0 (Key high))) (sym is) ∙ sym (get-insert_other total exact (map.insert map.empty high.0 (Key high)) low.0 (Key low) k ne) ∙ at) ∙ ap Key (same_id high k (sym is)))
-        (λ off. nowhere (sym (get-insert_other total exact (map.insert map.empty high.0 (Key high)) low.0 (Key low) k ne ∙ get-insert_other total exact map.empty high.0 (Key high) k off ∙ map.get-empty nat_cmp k) ∙ at))) where
-    same_edge : (x y : Edge) → Some x ≡ Some y → y ≡ x
-    same_edge x y is = cc
+      (λ is. same_edge (Key high) e (sym (get-insert_here total exact map.empty high.0 (Key high)) ∙ ap (map.get (map.insert map.empty high.0 (Key high))) (sym is) ∙ sym (get-insert_other total exact (map.insert map.empty high.0 (Key high)) low.0 (Key low) k ne) ∙ at) ∙ ap Key (same_id high k (sym is)))
+      (λ off. nowhere (sym (get-insert_other total exact (map.insert map.empty high.0 (Key high)) low.0 (Key low) k ne ∙ get-insert_other total exact map.empty high.0 (Key high) k off ∙ map.get-empty nat_cmp k) ∙ at))) where
+        same_edge : (x y : Edge) → Some x ≡ Some y → y ≡ x
+        same_edge x y is = cc
 
-    same_id : (x : Id) (k : ℕ) → x.0 ≡ k → x ≡ record { 0 = k }
-    same_id x k is = λ i. record { 0 = is i }
+        same_id : (x : Id) (k : ℕ) → x.0 ≡ k → x ≡ record { 0 = k }
+        same_id x k is = λ i. record { 0 = is i }
 
-    nowhere : None ≡ Some e → e ≡ Key (record { 0 = k })
-    nowhere f = absurd (let t : ⊥ = cc in t)
+        nowhere : None ≡ Some e → e ≡ Key (record { 0 = k })
+        nowhere f = absurd (let t : ⊥ = cc in t)
 
   pub key_node_form : IsKeyNode (set_hash zero_mix 1) (key_node low high)
   key_node_form = record {
@@ -95,10 +94,10 @@ module _ (low high : Id) (rise : low.0 < high.0) where
       has-union_over total exact (key_map low high) (λ _. single nat_cmp []) k u
       ∙ ap (λ o. has_under (λ (e : Edge). single nat_cmp []) o u) (map.get-insert total (map.insert map.empty high.0 (Key high)) low.0 (Key low) k ∙ ap (cond (eq_by_cmp nat_cmp k low.0) (Some (Key low))) (map.get-insert total map.empty high.0 (Key high) k ∙ ap (cond (eq_by_cmp nat_cmp k high.0) (Some (Key high))) (map.get-empty nat_cmp k)))
       ∙ cases (eq_by_cmp nat_cmp k low.0) (eq_by_cmp nat_cmp k high.0) where
-    cases : (a b : Bool) → has_under (λ (e : Edge). single nat_cmp []) (cond a (Some (Key low)) (cond b (Some (Key high)) None)) u ≡ ((a || b) && eq_by_cmp (slice_cmp nat_cmp) u [])
-    cases true b = has-single total exact [] u
-    cases false true = has-single total exact [] u
-    cases false false = refl
+        cases : (a b : Bool) → has_under (λ (e : Edge). single nat_cmp []) (cond a (Some (Key low)) (cond b (Some (Key high)) None)) u ≡ ((a || b) && eq_by_cmp (slice_cmp nat_cmp) u [])
+        cases true b = has-single total exact [] u
+        cases false true = has-single total exact [] u
+        cases false false = refl
 
   module _ (first : Id) (k : ℕ) (sets : ℕ → IdSet) (stands : sets k ≡ key_set_of (key_node low high)) where
     two_pairs_len : set.len (pair_set_of sets (pair_node low high first k)) ≡ 2
@@ -114,11 +113,11 @@ module _ (low high : Id) (rise : low.0 < high.0) where
       led e at = by_key total exact (λ _. IsPairEdge sets e) x first.0
           (λ is. subst (IsPairEdge sets) (same_edge (ToRow k) e (sym (get-insert_here total exact map.empty first.0 (ToRow k)) ∙ ap (map.get (pair_map low high first k)) (sym is) ∙ at)) (let n = ap set.len stands ∙ two_keys_len in omega arith))
           (λ ne. nowhere (sym (get-insert_other total exact map.empty first.0 (ToRow k) x ne ∙ map.get-empty nat_cmp x) ∙ at)) where
-        same_edge : (x y : Edge) → Some x ≡ Some y → x ≡ y
-        same_edge x y is = cc
+            same_edge : (x y : Edge) → Some x ≡ Some y → x ≡ y
+            same_edge x y is = cc
 
-        nowhere : None ≡ Some e → IsPairEdge sets e
-        nowhere f = absurd (let t : ⊥ = cc in t)
+            nowhere : None ≡ Some e → IsPairEdge sets e
+            nowhere f = absurd (let t : ⊥ = cc in t)
 
       by : (o : Option Edge) → slice nat_cmp (pair_set_of sets (pair_node low high first k)) 0 x ≡ set_under nat_cmp (edge_set sets) o → ((e : Edge) → o ≡ Some e → IsPairEdge sets e) → StandsFor (IsPairEdge sets) sets (slice nat_cmp (pair_set_of sets (pair_node low high first k)) 0 x) o
       by None is fit = is
@@ -138,9 +137,9 @@ module _ (low high : Id) (rise : low.0 < high.0) where
         map.get-insert total (map.insert map.empty high.0 (Key first)) low.0 (Key first) y
         ∙ ap (cond (eq_by_cmp nat_cmp y low.0) (Some (Key first))) (map.get-insert total map.empty high.0 (Key first) y ∙ ap (cond (eq_by_cmp nat_cmp y high.0) (Some (Key first))) (map.get-empty nat_cmp y))
         ∙ cases (eq_by_cmp nat_cmp y low.0) (eq_by_cmp nat_cmp y high.0) where
-      cases : (a b : Bool) → cond a (Some (Key first)) (cond b (Some (Key first)) None) ≡ cond (a || b) (Some (Key first)) None
-      cases true b = refl
-      cases false b = refl
+          cases : (a b : Bool) → cond a (Some (Key first)) (cond b (Some (Key first)) None) ≡ cond (a || b) (Some (Key first)) None
+          cases true b = refl
+          cases false b = refl
 
     -- the tuples before a key
     has-back : (y : ℕ) (u : List ℕ) → has (slice nat_cmp (pair_set_of sets (pair_node low high first k)) 1 y) u ≡ (is_key y && eq_by_cmp (slice_cmp nat_cmp) u (first.0 ∷ []))
@@ -153,10 +152,10 @@ module _ (low high : Id) (rise : low.0 < high.0) where
         ∙ has-pair x y u
         ∙ swap (eq_by_cmp nat_cmp x first.0) (is_key y) (eq_by_cmp (slice_cmp nat_cmp) u [])
         ∙ ap (λ b. is_key y && b) (sym (tied-cons nat_cmp x first.0 u [])) where
-      swap : (a b c : Bool) → (a && (b && c)) ≡ (b && (a && c))
-      swap true b c = refl
-      swap false true c = refl
-      swap false false c = refl
+          swap : (a b c : Bool) → (a && (b && c)) ≡ (b && (a && c))
+          swap true b c = refl
+          swap false true c = refl
+          swap false false c = refl
 
     second_slices : AreSlices (IsPairEdge sets) sets (pair_set_of sets (pair_node low high first k)) 1 (back_map low high first)
     second_slices y = subst (StandsFor (IsPairEdge sets) sets (slice nat_cmp (pair_set_of sets (pair_node low high first k)) 1 y)) (sym (back_at y)) (by (is_key y) (has-back y)) where

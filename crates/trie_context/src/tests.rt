@@ -5,11 +5,10 @@ ghost use Rattle.edge_map.specs.declared.edge.Edge.{Edge};
 ghost use Rattle.trie_node.specs.declared.node.Node.{Node};
 
 use super::*;
+use edge_map::{Edge, EdgeMap};
 use std::alloc::Global;
 use std::marker::Brand;
 use std::sync::ledger::{Blank, Ledger};
-
-use edge_map::{Edge, EdgeMap};
 use trie_depth::{ConstMix, Id, L1, L2, Memory, Steps};
 use trie_node::Node;
 
@@ -21,7 +20,10 @@ fn two_keys(alloc: Global, low: Id, high: Id) -> Result<Node, Memory>
     Ok(Node::Full {
         size: 2,
         hash: 0,
-        first: EdgeMap::new(alloc).with(&[(low, Some(Edge::Key(low))), (high, Some(Edge::Key(high)))])?,
+        first: EdgeMap::new(alloc).with(&[
+            (low, Some(Edge::Key(low))),
+            (high, Some(Edge::Key(high))),
+        ])?,
         second: EdgeMap::new(alloc),
         third: EdgeMap::new(alloc),
     })
@@ -36,7 +38,10 @@ fn pairs(alloc: Global, first: Id, keys: Edge, low: Id, high: Id) -> Result<Node
         size: 2,
         hash: 0,
         first: EdgeMap::new(alloc).with(&[(first, Some(keys))])?,
-        second: EdgeMap::new(alloc).with(&[(low, Some(Edge::Key(first))), (high, Some(Edge::Key(first)))])?,
+        second: EdgeMap::new(alloc).with(&[
+            (low, Some(Edge::Key(first))),
+            (high, Some(Edge::Key(first))),
+        ])?,
         third: EdgeMap::new(alloc),
     })
 }
@@ -62,7 +67,11 @@ fn shared<W: Ledger>(alloc: Global, steps: &mut Steps<W>) -> Result<(u128, u64, 
     let count = context.tables().one.count(row);
     context.release(one);
     context.release(two);
-    Ok((count, context.tables().one.len(), context.tables().two.len()))
+    Ok((
+        count,
+        context.tables().one.len(),
+        context.tables().two.len(),
+    ))
 }
 
 fn counted<W: Ledger>(alloc: Global, blank: Blank) -> Result<(u128, u64, u64), Memory>

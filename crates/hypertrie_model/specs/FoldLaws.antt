@@ -184,18 +184,18 @@ module _ {K : Type 0} {R : K → K → Ordering} (o : IsTotalOrder R) (exact : I
   sum_over-alike {X} {Y} f g = map_ind o exact (λ m. (s : FinMap R Y) → ((q : K) → part f q (map.get m q) ≡ part g q (map.get s q)) → sum_over m f ≡ sum_over s g)
       (λ s same. sum_over-empty o exact f ∙ sym (nothing s (λ q. sym (same q) ∙ ap (part f q) (map.get-empty R q))))
       (λ m k v none ind s same.
-        let here : f k v ≡ part g k (map.get s k) = sym (ap (part f k) (get-insert_here o exact m k v)) ∙ same k in
-        let rest = ind (map.remove s k) (λ q. by_key o exact (λ _. part f q (map.get m q) ≡ part g q (map.get (map.remove s k) q)) q k
-            (λ is. ap (λ z. part f z (map.get m z)) is ∙ ap (part f k) none ∙ sym (ap (λ z. part g z (map.get (map.remove s k) z)) is ∙ ap (part g k) (get-remove_here o exact s k)))
-            (λ ne. sym (ap (part f q) (get-insert_other o exact m k v q ne)) ∙ same q ∙ sym (ap (part g q) (get-remove_other o exact s k q ne)))) in
-        let new = sum_over-insert o exact m f k v none in
-        let old = sum_over-split s g k in
-        omega arith) where
-    nothing : (s : FinMap R Y) → ((q : K) → part g q (map.get s q) ≡ 0) → sum_over s g ≡ 0
-    nothing s none = elim (dec_lt 0 (sum_over s g)) as (λ _. sum_over s g ≡ 0) [
-        | yes p ↦ let h = sum_over-has o exact g s p in let z : g h.0 h.1 ≡ 0 = sym (ap (part g h.0) h.2) ∙ none h.0 in absurd (omega (arith, h.3))
-        | no p ↦ omega arith
-      ]
+      let here : f k v ≡ part g k (map.get s k) = sym (ap (part f k) (get-insert_here o exact m k v)) ∙ same k in
+      let rest = ind (map.remove s k) (λ q. by_key o exact (λ _. part f q (map.get m q) ≡ part g q (map.get (map.remove s k) q)) q k
+      (λ is. ap (λ z. part f z (map.get m z)) is ∙ ap (part f k) none ∙ sym (ap (λ z. part g z (map.get (map.remove s k) z)) is ∙ ap (part g k) (get-remove_here o exact s k)))
+      (λ ne. sym (ap (part f q) (get-insert_other o exact m k v q ne)) ∙ same q ∙ sym (ap (part g q) (get-remove_other o exact s k q ne)))) in
+      let new = sum_over-insert o exact m f k v none in
+      let old = sum_over-split s g k in
+      omega arith) where
+        nothing : (s : FinMap R Y) → ((q : K) → part g q (map.get s q) ≡ 0) → sum_over s g ≡ 0
+        nothing s none = elim (dec_lt 0 (sum_over s g)) as (λ _. sum_over s g ≡ 0) [
+          | yes p ↦ let h = sum_over-has o exact g s p in let z : g h.0 h.1 ≡ 0 = sym (ap (part g h.0) h.2) ∙ none h.0 in absurd (omega (arith, h.3))
+          | no p ↦ omega arith
+        ]
 
 is_there : {A : Type 0} (r : Option A) → true ≡ is_some r → (x : A) × (r ≡ Some x)
 is_there None e = absurd (let t : ⊥ = cc in t)

@@ -1,11 +1,8 @@
 -- Slices, sizes and exclusive ors of a union over a map.
-use Rattle.std.specs.Prelude.{◌≡◌, ℕ, zero, suc, ◌+◌, ◌<◌, ◌≤◌, ◌^◌, ◌≢◌, ◌&&◌, ◌||◌, Bool, true, false, cond, List, [], ◌∷◌, length, refl, Option, None, Some, bit_xor}
+use Rattle.std.specs.Prelude.{◌≡◌, ℕ, ◌+◌, ◌&&◌, ◌||◌, Bool, true, false, cond, List, [], ◌∷◌, refl, Option, None, Some, bit_xor}
 use Rattle.std.specs.Prelude.{map as each}
-use Rattle.std.proofs.Common.{sym, ◌∙◌, ap, subst, arith}
-use Rattle.std.proofs.lemmas.Bool.{false_from_ne_true}
+use Rattle.std.proofs.Common.{sym, ◌∙◌, ap, arith}
 use Rattle.std.proofs.lemmas.Cmp.{lists_total}
-use Rattle.std.specs.Int.Bits.{xor_assoc, xor_zero_l, xor_zero_r}
-use Rattle.std.specs.List.{list_any}
 use Rattle.std.specs.Ordering.{eq_by_cmp}
 use Rattle.std.specs.declared.cmp.Ordering.{Ordering}
 use Rattle.std.specs.Cmp.{IsTotalOrder}
@@ -13,14 +10,14 @@ use Rattle.std.specs.Cmp.Lexicographic.{slice_cmp}
 use Rattle.std.specs.FinMap as map
 use Rattle.std.specs.FinMap.{FinMap, IsAntisymmetric}
 use Rattle.std.specs.FinSet as set
-use Rattle.std.specs.FinSet.{FinSet, slice_cmp-IsAntisymmetric}
+use Rattle.std.specs.FinSet.{slice_cmp-IsAntisymmetric}
 use Rattle.hypertrie_model.specs.Sets.{TupleSet, has, empty}
 use Rattle.hypertrie_model.specs.SetLaws.{same_sets, tied-itself, tied-is, and_both}
-use Rattle.hypertrie_model.specs.SetInduction.{set_ind, Disjoint, len-union_disjoint, union_empty, union_insert}
+use Rattle.hypertrie_model.specs.SetInduction.{set_ind, Disjoint, len-union_disjoint}
 use Rattle.hypertrie_model.specs.Slices.{slice}
 use Rattle.hypertrie_model.specs.SliceLaws.{has-slice}
 use Rattle.hypertrie_model.specs.Folds.{sum_over, xor_over}
-use Rattle.hypertrie_model.specs.FoldLaws.{sum_over-empty, sum_over-insert, xor_over-empty, xor_over-insert, xor_over-lt}
+use Rattle.hypertrie_model.specs.FoldLaws.{sum_over-empty, sum_over-insert, xor_over-empty, xor_over-insert}
 use Rattle.hypertrie_model.specs.MapLaws.{by_key, map_ind}
 use Rattle.hypertrie_model.specs.Unions.{union_over, has_under}
 use Rattle.hypertrie_model.specs.UnionLaws.{has-union_over, has-union_over_nil, tied-cons, any-under, any-under_nil}
@@ -82,20 +79,20 @@ module _ {A : Type 0} {R : A → A → Ordering} (o : IsTotalOrder R) (exact : I
   len-prefixed k = set_ind (lists_total o) (slice_cmp-IsAntisymmetric exact) (λ S. set.len (prefixed R k S) ≡ set.len S)
       (ap set.len (prefixed-empty k))
       (λ S t new ind.
-        ap set.len (prefixed-insert k S t)
-        ∙ set.len-insert (lists_total o) (prefixed R k S) (k ∷ t)
-        ∙ ap (λ b. cond b (set.len (prefixed R k S)) (set.len (prefixed R k S) + 1)) (not_prefixed k S t new)
-        ∙ ap (λ n. n + 1) ind
-        ∙ sym (set.len-insert (lists_total o) S t ∙ ap (λ b. cond b (set.len S) (set.len S + 1)) new))
+      ap set.len (prefixed-insert k S t)
+      ∙ set.len-insert (lists_total o) (prefixed R k S) (k ∷ t)
+      ∙ ap (λ b. cond b (set.len (prefixed R k S)) (set.len (prefixed R k S) + 1)) (not_prefixed k S t new)
+      ∙ ap (λ n. n + 1) ind
+      ∙ sym (set.len-insert (lists_total o) S t ∙ ap (λ b. cond b (set.len S) (set.len S + 1)) new))
 
   pub xor_over-prefixed : (k : A) (g : List A → ℕ) (S : TupleSet R) → xor_over (prefixed R k S) g ≡ xor_over S (λ t. g (k ∷ t))
   xor_over-prefixed k g = set_ind (lists_total o) (slice_cmp-IsAntisymmetric exact) (λ S. xor_over (prefixed R k S) g ≡ xor_over S (λ t. g (k ∷ t)))
       (ap (λ S. xor_over S g) (prefixed-empty k) ∙ xor_over-empty (lists_total o) (slice_cmp-IsAntisymmetric exact) g ∙ sym (xor_over-empty (lists_total o) (slice_cmp-IsAntisymmetric exact) (λ t. g (k ∷ t))))
       (λ S t new ind.
-        ap (λ T. xor_over T g) (prefixed-insert k S t)
-        ∙ xor_over-insert (lists_total o) (slice_cmp-IsAntisymmetric exact) (prefixed R k S) g (k ∷ t) (not_prefixed k S t new)
-        ∙ ap (bit_xor (g (k ∷ t))) ind
-        ∙ sym (xor_over-insert (lists_total o) (slice_cmp-IsAntisymmetric exact) S (λ u. g (k ∷ u)) t new))
+      ap (λ T. xor_over T g) (prefixed-insert k S t)
+      ∙ xor_over-insert (lists_total o) (slice_cmp-IsAntisymmetric exact) (prefixed R k S) g (k ∷ t) (not_prefixed k S t new)
+      ∙ ap (bit_xor (g (k ∷ t))) ind
+      ∙ sym (xor_over-insert (lists_total o) (slice_cmp-IsAntisymmetric exact) S (λ u. g (k ∷ u)) t new))
 
   -- one entry more
   module _ {X : Type 0} (m : FinMap R X) (f : X → TupleSet R) (k : A) (v : X) (new : map.get m k ≡ None) where
@@ -105,9 +102,9 @@ module _ {A : Type 0} {R : A → A → Ordering} (o : IsTotalOrder R) (exact : I
       either x u = by_key o exact (λ b. has_under f (cond b (Some v) (map.get m x)) u ≡ (has_under f (map.get m x) u || (b && has (f v) u))) x k
           (λ is. sym (ap (λ r. has_under f r u || has (f v) u) (ap (map.get m) is ∙ new)))
           (λ ne. sym (or-false (has_under f (map.get m x) u))) where
-        or-false : (b : Bool) → (b || false) ≡ b
-        or-false true = refl
-        or-false false = refl
+            or-false : (b : Bool) → (b || false) ≡ b
+            or-false true = refl
+            or-false false = refl
 
       at : (q : List A) → has (union_over (map.insert m k v) f) q ≡ has (set.union (union_over m f) (prefixed R k (f v))) q
       at [] =

@@ -12,3 +12,4 @@ pub mod IdSets
 pub mod SetInduction
 pub mod UnionSizes
 pub mod UnionHashes
+pub mod MaskLaws

@@ -1,11 +1,8 @@
 -- Slices, sizes and exclusive ors of a union over a map.
-use Rattle.std.specs.Prelude.{◌≡◌, ℕ, zero, suc, ◌+◌, ◌<◌, ◌≤◌, ◌^◌, ◌≢◌, ◌&&◌, ◌||◌, Bool, true, false, cond, List, [], ◌∷◌, length, refl, Option, None, Some, bit_xor}
+use Rattle.std.specs.Prelude.{◌≡◌, ℕ, ◌+◌, ◌&&◌, ◌||◌, Bool, true, false, cond, List, [], ◌∷◌, refl, Option, None, Some, bit_xor}
 use Rattle.std.specs.Prelude.{map as each}
-use Rattle.std.proofs.Common.{sym, ◌∙◌, ap, subst, arith}
-use Rattle.std.proofs.lemmas.Bool.{false_from_ne_true}
+use Rattle.std.proofs.Common.{sym, ◌∙◌, ap, arith}
 use Rattle.std.proofs.lemmas.Cmp.{lists_total}
-use Rattle.std.specs.Int.Bits.{xor_assoc, xor_zero_l, xor_zero_r}
-use Rattle.std.specs.List.{list_any}
 use Rattle.std.specs.Ordering.{eq_by_cmp}
 use Rattle.std.specs.declared.cmp.Ordering.{Ordering}
 use Rattle.std.specs.Cmp.{IsTotalOrder}
@@ -13,14 +10,14 @@ use Rattle.std.specs.Cmp.Lexicographic.{slice_cmp}
 use Rattle.std.specs.FinMap as map
 use Rattle.std.specs.FinMap.{FinMap, IsAntisymmetric}
 use Rattle.std.specs.FinSet as set
-use Rattle.std.specs.FinSet.{FinSet, slice_cmp-IsAntisymmetric}
+use Rattle.std.specs.FinSet.{slice_cmp-IsAntisymmetric}
 use Rattle.hypertrie_model.specs.Sets.{TupleSet, has, empty}
 use Rattle.hypertrie_model.specs.SetLaws.{same_sets, tied-itself, tied-is, and_both}
-use Rattle.hypertrie_model.specs.SetInduction.{set_ind, Disjoint, len-union_disjoint, union_empty, union_insert}
+use Rattle.hypertrie_model.specs.SetInduction.{set_ind, Disjoint, len-union_disjoint}
 use Rattle.hypertrie_model.specs.Slices.{slice}
 use Rattle.hypertrie_model.specs.SliceLaws.{has-slice}
 use Rattle.hypertrie_model.specs.Folds.{sum_over, xor_over}
-use Rattle.hypertrie_model.specs.FoldLaws.{sum_over-empty, sum_over-insert, xor_over-empty, xor_over-insert, xor_over-lt}
+use Rattle.hypertrie_model.specs.FoldLaws.{sum_over-empty, sum_over-insert, xor_over-empty, xor_over-insert}
 use Rattle.hypertrie_model.specs.MapLaws.{by_key, map_ind}
 use Rattle.hypertrie_model.specs.Unions.{union_over, has_under}
 use Rattle.hypertrie_model.specs.UnionLaws.{has-union_over, has-union_over_nil, tied-cons, any-under, any-under_nil}

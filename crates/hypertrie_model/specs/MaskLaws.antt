@@ -46,7 +46,7 @@ module _ {A : Type 0} {R : A → A → Ordering} (o : IsTotalOrder R) (exact : I
             let is : k ≡ x = tied-is exact k x (sym (ap (λ b. cond b (eq_by_cmp R k x) true) odd) ∙ two.0) in
             let rest : without_mask (m / 2) t ≡ u = sym (ap (λ b. cond b (without_mask (m / 2) t) (x ∷ without_mask (m / 2) t)) odd) ∙ left in
             subst (λ v. has (slice_at_mask R (slice R H 0 k) (m / 2) k) v ≡ true) rest
-              (slice_at_mask-has o exact (slice R H 0 k) (m / 2) k t (rest_there H k t ∙ ap (λ y. has H (y ∷ t)) is ∙ there) two.1)
+            (slice_at_mask-has o exact (slice R H 0 k) (m / 2) k t (rest_there H k t ∙ ap (λ y. has H (y ∷ t)) is ∙ there) two.1)
 
       back : (u : List A) → IsLeft o exact (slice R H 0 k) (m / 2) k u → has (slice_at_mask R H m k) u ≡ true
       back u l =
@@ -73,7 +73,7 @@ module _ {A : Type 0} {R : A → A → Ordering} (o : IsTotalOrder R) (exact : I
             let split : y ∷ without_mask (m / 2) t ≡ x ∷ u = sym (ap (λ b. cond b (without_mask (m / 2) t) (y ∷ without_mask (m / 2) t)) even) ∙ left in
             let is = head y x (without_mask (m / 2) t) u split in
             subst (λ v. has (slice_at_mask R (slice R H 0 x) (m / 2) k) v ≡ true) (tail y x (without_mask (m / 2) t) u split)
-              (slice_at_mask-has o exact (slice R H 0 x) (m / 2) k t (rest_there H x t ∙ ap (λ z. has H (z ∷ t)) (sym is) ∙ there) two.1)
+            (slice_at_mask-has o exact (slice R H 0 x) (m / 2) k t (rest_there H x t ∙ ap (λ z. has H (z ∷ t)) (sym is) ∙ there) two.1)
 
       back : IsLeft o exact (slice R H 0 x) (m / 2) k u → has (slice_at_mask R H m k) (x ∷ u) ≡ true
       back l =

@@ -1,5 +1,7 @@
 //! `tentris`: reads a script from standard input and writes its answers to standard output.
 #![tactic(auto)]
+ghost use Rattle.std.specs.Prelude.{◌≡◌, option_map};
+ghost use Rattle.tentris_cli.specs.Complaints.{line_of};
 
 mod standard;
 
@@ -10,11 +12,18 @@ use std::process::ExitCode;
 use std::{env, io};
 use tentris_core::{Status, run};
 
-// The words after the program's name.
-fn words(rt: &HostRuntime) -> io::Result<Vec<String>> {
+// The words after the program's name. Words that are not UTF-8 are bad words.
+fn words(rt: &HostRuntime) -> Result<Vec<String>, Status> {
+    let args = match env::args(rt) {
+        Ok(args) => args,
+        Err(error) if error.kind() == io::ErrorKind::InvalidData => return Err(Status::BadWords),
+        Err(_) => return Err(Status::Memory),
+    };
     let mut words = Vec::new(rt.alloc());
-    for word in env::args(rt)?.skip(1) {
-        words.push(word)?;
+    for word in args.skip(1) {
+        if words.push(word).is_err() {
+            return Err(Status::Memory);
+        }
     }
     Ok(words)
 }
@@ -29,8 +38,9 @@ fn lent<'a>(rt: &HostRuntime, words: &'a [String]) -> Result<Vec<&'a str>, Alloc
 }
 
 fn carry_out(rt: &HostRuntime) -> Status {
-    let Ok(words) = words(rt) else {
-        return Status::Memory;
+    let words = match words(rt) {
+        Ok(words) => words,
+        Err(status) => return status,
     };
     let Ok(words) = lent(rt, &words) else {
         return Status::Memory;
@@ -42,7 +52,9 @@ fn carry_out(rt: &HostRuntime) -> Status {
 }
 
 // The line on standard error for a status, if it has one.
-fn complaint(status: Status) -> Option<&'static str> {
+fn complaint(status: Status) -> Option<&'static str>
+    ensures { option_map (λ line. line.now) result ≡ line_of status }
+{
     match status {
         Status::Done | Status::SomeRefused => None,
         Status::BadWords => Some("tentris: bad words"),

@@ -81,7 +81,7 @@ module _ {K : Type 0} {R : K → K → Ordering} (o : IsTotalOrder R) (exact : I
     abbrev pub HasPart : FinMap R X → (K → X → ℕ) → Type 0
     HasPart m f = (k : K) × (v : X) × (map.get m k ≡ Some v) × (0 < f k v)
 
-    apart_from : (m : FinMap R X) (k q : K) (w : X) → map.get m k ≡ None → map.get m q ≡ Some w → q ≢ k
+    pub apart_from : (m : FinMap R X) (k q : K) (w : X) → map.get m k ≡ None → map.get m q ≡ Some w → q ≢ k
     apart_from m k q w none e is = let t : None ≡ Some w = sym none ∙ ap (map.get m) (sym is) ∙ e in cc
 
     pub sum_over-has : (f : K → X → ℕ) (m : FinMap R X) → 0 < sum_over m f → HasPart m f
@@ -115,21 +115,21 @@ module _ {K : Type 0} {R : K → K → Ordering} (o : IsTotalOrder R) (exact : I
   pub get-marked : (s : FinSet R) (q : K) → map.get (marked s) q ≡ mark (set.contains s q)
   get-marked s q = map.get-from_entries o (each (λ k. (k, tt)) (set.items s)) q ∙ find-marked (set.items s) q ∙ ap mark (sym (set.contains-items s q))
 
-  marked-insert : (s : FinSet R) (k : K) → marked (set.insert s k) ≡ map.insert (marked s) k tt
+  pub marked-insert : (s : FinSet R) (k : K) → marked (set.insert s k) ≡ map.insert (marked s) k tt
   marked-insert s k = same_maps o exact _ _ (λ q.
       get-marked (set.insert s k) q ∙ ap mark (set.contains-insert o s k q)
       ∙ elim (eq_by_cmp R q k) as (λ b. mark (b || set.contains s q) ≡ cond b (Some tt) (mark (set.contains s q))) [ true ↦ refl | false ↦ refl ]
       ∙ ap (cond (eq_by_cmp R q k) (Some tt)) (sym (get-marked s q))
       ∙ sym (map.get-insert o (marked s) k tt q))
 
-  marked-remove : (s : FinSet R) (k : K) → marked (set.remove s k) ≡ map.remove (marked s) k
+  pub marked-remove : (s : FinSet R) (k : K) → marked (set.remove s k) ≡ map.remove (marked s) k
   marked-remove s k = same_maps o exact _ _ (λ q.
       get-marked (set.remove s k) q ∙ ap mark (set.contains-remove o s k q)
       ∙ elim (eq_by_cmp R q k) as (λ b. mark (not b && set.contains s q) ≡ cond b None (mark (set.contains s q))) [ true ↦ refl | false ↦ refl ]
       ∙ ap (cond (eq_by_cmp R q k) None) (sym (get-marked s q))
       ∙ sym (map.get-remove o (marked s) k q))
 
-  marked-empty : marked (set.empty {R = R}) ≡ map.empty
+  pub marked-empty : marked (set.empty {R = R}) ≡ map.empty
   marked-empty = same_maps o exact _ _ (λ q. get-marked set.empty q ∙ ap mark (set.contains-empty R q) ∙ sym (map.get-empty R q))
 
   pub xor_over-empty : (f : K → ℕ) → xor_over (set.empty {R = R}) f ≡ 0

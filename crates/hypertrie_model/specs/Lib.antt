@@ -13,3 +13,12 @@ pub mod SetInduction
 pub mod UnionSizes
 pub mod UnionHashes
 pub mod MaskLaws
+pub mod Changes
+pub mod ChangeLaws
+pub mod Listings
+pub mod Runs
+pub mod Shapes
+pub mod Members
+pub mod ShapeLaws
+pub mod ShapeRows
+pub mod SliceSizes

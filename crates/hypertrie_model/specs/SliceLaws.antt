@@ -56,7 +56,7 @@ any-filter_map h q (x ∷ xs) =
       | Some y ↦ ap (λ b. q y || b) (any-filter_map h q xs)
     ]
 
-remove-insert_at : {A : Type 0} (u : List A) (i : ℕ) (k : A) → i ≤ length u → remove (insert u i k) i ≡ u
+pub remove-insert_at : {A : Type 0} (u : List A) (i : ℕ) (k : A) → i ≤ length u → remove (insert u i k) i ≡ u
 remove-insert_at u zero k h = refl
 remove-insert_at [] (suc i) k h = absurd (omega arith)
 remove-insert_at (x ∷ u) (suc i) k h = ap (λ xs. x ∷ xs) (remove-insert_at u i k (omega arith))
@@ -108,7 +108,7 @@ module _ {A : Type 0} {R : A → A → Ordering} (o : IsTotalOrder R) (exact : I
       let same = ap length (tied-is (slice_cmp-IsAntisymmetric exact) u (remove p.member i) two.1) in
       omega arith)
 
-  by_length : (P : Type 0) (i : ℕ) (u : List A) → (i ≤ length u → P) → (length u < i → P) → P
+  pub by_length : (P : Type 0) (i : ℕ) (u : List A) → (i ≤ length u → P) → (length u < i → P) → P
   by_length P i u within short = elim (dec_le i (length u)) as (λ _. P) [ yes le ↦ within le | no gt ↦ short (omega arith) ]
 
   -- the slice of a union is the union of the slices

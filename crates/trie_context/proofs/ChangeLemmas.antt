@@ -1,36 +1,18 @@
 -- The rows of one depth replaced: what keeps all rows kept, and what becomes of the holds.
-use Rattle.std.specs.Prelude.{◌≡◌, ℕ, zero, suc, ◌+◌, ◌-◌, ◌<◌, ◌≤◌, ◌≢◌, Bool, true, false, cond, nat_eq, refl, Option, None, Some}
+use Rattle.std.specs.Prelude.{◌≡◌, ℕ, zero, suc, ◌+◌, ◌-◌, ◌<◌, ◌≤◌, ◌≢◌, cond, nat_eq, refl, Option, None, Some}
 use Rattle.std.proofs.Common.{sym, ◌∙◌, ap, subst, arith}
-use Rattle.std.proofs.lemmas.Bool.Decides.{nat_tests}
-use Rattle.std.specs.Ordering.{nat_cmp}
 use Rattle.std.specs.Cmp.{nat_cmp_total as total}
 use Rattle.std.specs.FinMap as map
 use Rattle.std.specs.FinMap.{nat_cmp-IsAntisymmetric as exact}
-use Rattle.hypertrie_model.specs.IdSets.{IdSet}
-use Rattle.hypertrie_model.specs.FoldLaws.{sum_over-insert, sum_over-remove, sum_over-set, sum_over-part}
-use Rattle.hypertrie_model.specs.MapLaws.{by_key, get-insert_here, get-insert_other, get-remove_here, get-remove_other}
+use Rattle.hypertrie_model.specs.FoldLaws.{sum_over-part}
 use Rattle.node_table.specs.Table.{Row}
 use Rattle.trie_node.specs.declared.node.Node.{Node}
 use Rattle.trie_node.specs.Sets.{edges_of, hash_of_node}
 use Rattle.trie_context.specs.Rows.{Rows, node_set, row_set, sets_over}
-use Rattle.trie_context.specs.Holds.{count_of, edges_from, holds_over, one_at, at_depth}
+use Rattle.trie_context.specs.Holds.{count_of, edges_from, holds_over, at_depth}
 use Rattle.trie_context.specs.Kept.{IsNode, AreRowsKept, AllKept}
-use Rattle.trie_context.specs.RowLaws.{node_same, node_set_same, fair_at, counted}
-
-eq_true : (a b : ℕ) → a ≡ b → nat_eq a b ≡ true
-eq_true a b h = grind (arith, nat_tests)
-
-eq_false : (a b : ℕ) → a ≢ b → nat_eq a b ≡ false
-eq_false a b h = grind (arith, nat_tests)
-
-pub if_same : {X : Type 0} (a b : ℕ) (x y : X) → a ≡ b → cond (nat_eq a b) x y ≡ x
-if_same a b x y is = ap (λ t. cond t x y) (eq_true a b is)
-
-pub if_other : {X : Type 0} (a b : ℕ) (x y : X) → a ≢ b → cond (nat_eq a b) x y ≡ y
-if_other a b x y ne = ap (λ t. cond t x y) (eq_false a b ne)
-
-pub same_or_not : (a b : ℕ) (P : Type 0) → (a ≡ b → P) → (a ≢ b → P) → P
-same_or_not a b P = by_key total exact (λ _. P) a b
+use Rattle.trie_context.specs.RowLaws.{node_same, node_set_same, counted}
+use Rattle.trie_context.specs.MoveLaws.{if_other, if_same, same_or_not}
 
 -- the rows of every depth with others at one
 abbrev pub put_rows : (ℕ → Rows) → ℕ → Rows → ℕ → Rows

@@ -1,6 +1,6 @@
 -- The steps of the worked example, over plain tables.
-use Rattle.std.specs.Prelude.{◌≡◌, ℕ, zero, suc, ◌+◌, ◌-◌, ◌<◌, ◌≤◌, ◌^◌, ◌≢◌, cond, nat_eq, refl, Option, None, Some, IsSome, option_map, true}
-use Rattle.std.proofs.Common.{sym, ◌∙◌, ap, subst, arith}
+use Rattle.std.specs.Prelude.{◌≡◌, ℕ, ◌+◌, ◌<◌, ◌≤◌, Option, None, Some, option_map}
+use Rattle.std.proofs.Common.{◌∙◌, ap, arith}
 use Rattle.std.specs.Ordering.{nat_cmp}
 use Rattle.std.specs.Cmp.{nat_cmp_total as total}
 use Rattle.std.specs.FinMap as map
@@ -12,15 +12,14 @@ use Rattle.edge_map.specs.declared.edge.Edge.{Edge}
 use Rattle.edge_map.specs.declared.edge.Edge.TheVariants.{Key, Node as ToRow}
 use Rattle.node_table.specs.Table.{Row}
 use Rattle.trie_node.specs.declared.node.Node.{Node}
-use Rattle.trie_node.specs.Sets.{key_set_of, set_hash, leads, edges_in, edges_of}
+use Rattle.trie_node.specs.Sets.{key_set_of, set_hash, leads, edges_of}
 use Rattle.trie_context.specs.declared.tables.Tables.{Tables}
-use Rattle.trie_context.specs.Rows.{no_tables, rows_at, row_of, node_of, row_set, set_of}
-use Rattle.trie_context.specs.Holds.{count_of, edges_from, holds_of, one_at, at_depth, nothing, HasRoom, CountsRiseBy, RowsStay}
-use Rattle.trie_context.specs.Kept.{IsNode, AreMoved}
+use Rattle.trie_context.specs.Rows.{no_tables, row_of, node_of, row_set, set_of}
+use Rattle.trie_context.specs.Holds.{count_of, holds_of, one_at, at_depth, nothing, HasRoom, CountsRiseBy}
+use Rattle.trie_context.specs.Kept.{AreMoved}
 use Rattle.trie_context.specs.RowLaws.{empty_at, key_node_edges}
-use Rattle.trie_context.proofs.ChangeLemmas.{if_same, if_other, same_or_not}
-use Rattle.trie_context.proofs.ReleaseLemmas.{at_here, at_other}
-use Rattle.trie_context.proofs.WorkedExample.{zero_mix, key_node, key_node_form, pair_map, back_map, pair_node, pair_node_form}
+use Rattle.trie_context.specs.MoveLaws.{leads_one, at_here, at_other, if_other, if_same, same_or_not}
+use Rattle.trie_context.proofs.WorkedExample.{zero_mix, key_node, key_node_form, pair_node}
 
 pub no_count : (d r : ℕ) → count_of (row_of no_tables d r) ≡ 0
 no_count d r = ap count_of (ap (λ m. map.get m r) (empty_at d) ∙ map.get-empty nat_cmp r)
@@ -44,21 +43,6 @@ few_more t u d k n few rise e r = omega (arith, few e r, rise e r, few_at d k e 
 pub few_room : (t : Tables) (n : ℕ) → n ≤ 9 → AreFew t n → HasRoom t
 few_room t n small few d r row at = let c : count_of (row_of t d r) ≡ row.count = ap count_of at in let f = few d r in omega arith
 
-pub node_stays : (t u : Tables) → RowsStay t u → (d k : ℕ) (node : Node) → node_of t d k ≡ Some node → node_of u d k ≡ Some node
-node_stays t u stay d k node at = by (row_of t d k) refl where
-  by : (o : Option (Row Node)) → row_of t d k ≡ o → node_of u d k ≡ Some node
-  by None e = absurd (let f : None ≡ Some node = sym (ap (option_map (λ (r : Row Node). r.node)) e) ∙ at in cc)
-  by (Some row) e =
-      let s = stay d k row e in
-      let same : Some row.node ≡ Some node = sym (ap (option_map (λ (r : Row Node). r.node)) e) ∙ at in
-      ap (option_map (λ (r : Row Node). r.node)) s.1 ∙ ap Some s.2 ∙ same
-
-pub node_there : (t : Tables) (d k : ℕ) (node : Node) → node_of t d k ≡ Some node → IsSome (row_of t d k)
-node_there t d k node at = by (row_of t d k) at where
-  by : (o : Option (Row Node)) → option_map (λ (r : Row Node). r.node) o ≡ Some node → IsSome o
-  by None e = absurd (let f : None ≡ Some node = e in cc)
-  by (Some row) e = refl
-
 pub keys_set : (t : Tables) (k : ℕ) (node : Node) → node_of t 1 k ≡ Some node → set_of t 1 k ≡ key_set_of node
 keys_set t k node at = by (row_of t 1 k) at where
   by : (o : Option (Row Node)) → option_map (λ (r : Row Node). r.node) o ≡ Some node → row_set key_set_of o ≡ key_set_of node
@@ -76,10 +60,7 @@ module _ (low high : Id) (rise : low.0 < high.0) where
       let b = sum_over-insert total exact map.empty f high.0 (Key first) (map.get-empty nat_cmp high.0) in
       let c = sum_over-insert total exact (map.insert map.empty high.0 (Key first)) f low.0 (Key first) (get-insert_other total exact map.empty high.0 (Key first) low.0 (λ is. omega arith) ∙ map.get-empty nat_cmp low.0) in
       let none = sum_over-empty total exact f in
-      let turn = turned k r in
-      omega arith where
-        turned : (n r : ℕ) → leads (ToRow n) r ≡ one_at n r
-        turned n r = same_or_not n r _ (λ is. if_same n r 1 0 is ∙ sym (if_same r n 1 0 (sym is))) (λ ne. if_other n r 1 0 ne ∙ sym (if_other r n 1 0 (λ is. ne (sym is))))
+      omega (arith, leads_one k r)
 
 module _ (t u : Tables) (k : ℕ) where
   -- a key set put in
@@ -107,6 +88,3 @@ module _ (t u : Tables) (k : ℕ) where
 
   pub let_go : AreMoved zero_mix t u nothing (at_depth 2 (one_at k)) → (r : ℕ) → holds_of u 2 r + one_at k r ≡ holds_of t 2 r
   let_go m r = omega (arith, m.holds 2 r, at_here 2 (one_at k) r)
-
-pub one_here : (k : ℕ) → one_at k k ≡ 1
-one_here k = if_same k k 1 0 refl

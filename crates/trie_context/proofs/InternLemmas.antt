@@ -1,5 +1,5 @@
 -- A node that is found, or put in; and that rows stay where edges are given up that another row has too.
-use Rattle.std.specs.Prelude.{◌≡◌, ℕ, zero, suc, ◌+◌, ◌-◌, ◌<◌, ◌≤◌, ◌≢◌, cond, nat_eq, refl, Option, None, Some, IfSome, IsSome, option_map}
+use Rattle.std.specs.Prelude.{◌≡◌, ℕ, zero, suc, ◌+◌, ◌-◌, ◌<◌, ◌≤◌, refl, Option, None, Some, option_map}
 use Rattle.std.proofs.Common.{sym, ◌∙◌, ap, subst, arith}
 use Rattle.std.specs.Ordering.{nat_cmp}
 use Rattle.std.specs.Cmp.{nat_cmp_total as total}
@@ -15,9 +15,8 @@ use Rattle.trie_context.specs.Rows.{table_at, put_table, rows_at, row_of, node_o
 use Rattle.trie_context.specs.Holds.{count_of, edges_from, holds_of, one_at, at_depth, nothing, RowsStay}
 use Rattle.trie_context.specs.Kept.{AreKept, AreMoved}
 use Rattle.trie_context.specs.RowLaws.{counted}
-use Rattle.trie_context.proofs.ChangeLemmas.{same_or_not}
-use Rattle.trie_context.proofs.TableMoves.{from_one, bumped, moved_on, count_stays, put_row, rows_stay_on}
-use Rattle.trie_context.proofs.ReleaseLemmas.{at_here, at_other}
+use Rattle.trie_context.specs.MoveLaws.{from_one, at_here, at_other, moved_on, rows_stay_on, same_or_not}
+use Rattle.trie_context.proofs.TableMoves.{bumped, count_stays, put_row}
 
 -- no row has this node where none has it under its hash
 pub no_row : (mixed : ℕ → ℕ → ℕ → ℕ → ℕ) (t : Tables) → AreKept mixed t → (k : ℕ) → 1 ≤ k → (node : Node) (hash : ℕ) → hash ≡ hash_of_node mixed node → HasNoNodeUnder (table_at t k) node hash → HasNoNode (table_at t k) node

@@ -1,44 +1,24 @@
 -- Edges given up one by one, and a row given up with its edges.
-use Rattle.std.specs.Prelude.{◌≡◌, ℕ, zero, suc, ◌+◌, ◌-◌, ◌<◌, ◌≤◌, ◌≢◌, cond, nat_eq, refl, true, false, Option, None, Some, IfSome, IsSome}
+use Rattle.std.specs.Prelude.{◌≡◌, ℕ, ◌+◌, ◌-◌, ◌<◌, ◌≤◌, refl, true, false, Option, None, Some, IfSome, IsSome}
 use Rattle.std.proofs.Common.{sym, ◌∙◌, ap, subst, arith}
-use Rattle.std.specs.Ordering.{nat_cmp}
 use Rattle.std.specs.FinMap as map
 use Rattle.hypertrie_model.specs.Tails.{tail, tail_all, sum_over-tail, sum_over-tail_none}
 use Rattle.edge_map.specs.declared.edge.Edge.{Edge}
+use Rattle.edge_map.specs.declared.edge.Edge.TheVariants.{Node as ToRow}
 use Rattle.edge_map.specs.Edges.{Edges}
-use Rattle.node_table.specs.Table.{Row, with_row, without_row}
+use Rattle.node_table.specs.Table.{Row, without_row}
 use Rattle.trie_node.specs.declared.node.Node.{Node}
 use Rattle.trie_node.specs.Sets.{leads, edges_in, edges_of}
 use Rattle.trie_context.specs.declared.tables.Tables.{Tables}
-use Rattle.trie_context.specs.Rows.{table_at, put_table, rows_at, row_of}
-use Rattle.trie_context.specs.Holds.{count_of, edges_from, holds_of, one_at, at_depth, nothing, RowsStay}
+use Rattle.trie_context.specs.Rows.{table_at, put_table, row_of}
+use Rattle.trie_context.specs.Holds.{holds_of, one_at, at_depth, nothing, RowsStay}
 use Rattle.trie_context.specs.Kept.{AreKept, AreMoved}
-use Rattle.trie_context.proofs.ChangeLemmas.{same_or_not, if_same, if_other}
-use Rattle.trie_context.proofs.TableMoves.{from_one, less_one, moved_as, moved_on, rows_stay_on, dropped, drop_came, beside_put}
-
-pub at_here : (d : ℕ) (n : ℕ → ℕ) (r : ℕ) → at_depth d n d r ≡ n r
-at_here d n r = if_same d d (n r) 0 refl
-
-pub at_other : (d : ℕ) (n : ℕ → ℕ) (e r : ℕ) → e ≢ d → at_depth d n e r ≡ 0
-at_other d n e r ne = if_other e d (n r) 0 ne
-
--- sums of parts, at each depth
-pub at_sum : (d : ℕ) (n m p : ℕ → ℕ) → ((r : ℕ) → n r ≡ m r + p r) → (e r : ℕ) → at_depth d n e r ≡ at_depth d m e r + at_depth d p e r
-at_sum d n m p same e r = same_or_not e d _
-    (λ is. omega (arith, if_same e d (n r) 0 is, if_same e d (m r) 0 is, if_same e d (p r) 0 is, same r))
-    (λ ne. omega (arith, if_other e d (n r) 0 ne, if_other e d (m r) 0 ne, if_other e d (p r) 0 ne))
-
-pub at_none : (d : ℕ) (n : ℕ → ℕ) → ((r : ℕ) → n r ≡ 0) → (e r : ℕ) → at_depth d n e r ≡ 0
-at_none d n none e r = same_or_not e d _ (λ is. if_same e d (n r) 0 is ∙ none r) (λ ne. if_other e d (n r) 0 ne)
+use Rattle.trie_context.specs.RowLaws.{row_low}
+use Rattle.trie_context.specs.MoveLaws.{from_one, at_here, at_none, at_other, at_sum, moved_as, if_same, moved_on, rows_stay_on, there_row, held_there}
+use Rattle.trie_context.proofs.TableMoves.{dropped, drop_came}
 
 pub if_at : {A : Type 0} (P : A → Type 0) (o : Option A) {x : A} → o ≡ Some x → IfSome o P → P x
 if_at P o at h = subst (λ q. IfSome q P) at h
-
-pub there_row : (t : Tables) (d i : ℕ) → 1 ≤ holds_of t d i → (row : Row Node) × (row_of t d i ≡ Some row)
-there_row t d i held = by (row_of t d i) refl where
-  by : (o : Option (Row Node)) → row_of t d i ≡ o → (row : Row Node) × (row_of t d i ≡ Some row)
-  by None e = absurd (let c : count_of (row_of t d i) ≡ 0 = ap count_of e in omega arith)
-  by (Some row) e = (row, e)
 
 pub some_row : (t : Tables) (d i : ℕ) → IsSome (row_of t d i) → (row : Row Node) × (row_of t d i ≡ Some row)
 some_row t d i there = by (row_of t d i) there where
@@ -49,14 +29,14 @@ some_row t d i there = by (row_of t d i) there where
 pub live_at : (mixed : ℕ → ℕ → ℕ → ℕ → ℕ) (t : Tables) → AreKept mixed t → (k : ℕ) → 1 ≤ k → (i : ℕ) (row : Row Node) → row_of t k i ≡ Some row → 1 ≤ row.count
 live_at mixed t kept k low i row = from_one (λ k. row_of t k i ≡ Some row → 1 ≤ row.count) k low (λ j at. (kept j).live i row at)
 
--- below depth one there is nothing to hold
-pub no_holds : (t : Tables) (r : ℕ) → holds_of t 0 r ≡ 0
-no_holds t r = let c : count_of (row_of t 0 r) ≡ 0 = ap count_of (map.get-empty nat_cmp r) in omega arith
+-- a row that a held edge leads to has a hold, and so a depth of one or more
+pub edge_held : (t : Tables) (d : ℕ) (e : Edge) (n : ℕ) → e ≡ ToRow n → ((r : ℕ) → leads e r ≤ holds_of t d r) → 1 ≤ holds_of t d n
+edge_held t d e n is held = let one : leads e n ≡ 1 = ap (λ f. leads f n) is ∙ if_same n n 1 0 refl in omega (arith, held n, one)
+
+pub edge_low : (t : Tables) (d : ℕ) (e : Edge) (n : ℕ) → e ≡ ToRow n → ((r : ℕ) → leads e r ≤ holds_of t d r) → 1 ≤ d
+edge_low t d e n is held = row_low t d n (held_there t d n (edge_held t d e n is held))
 
 module _ (mixed : ℕ → ℕ → ℕ → ℕ → ℕ) where
-  pub moved_none : (t : Tables) → AreKept mixed t → (given : ℕ → ℕ → ℕ) → ((d r : ℕ) → given d r ≡ 0) → AreMoved mixed t t nothing given
-  moved_none t kept given none = record { kept = kept; holds = λ d r. omega (arith, none d r); reserved = λ d. refl }
-
   pub walk_begins : (t : Tables) → AreKept mixed t → (d : ℕ) (m : Edges) → AreMoved mixed t t (at_depth d (edges_in (tail m 0))) (at_depth d (edges_in m))
   walk_begins t kept d m = record { kept = kept; holds = λ e r. ap (λ n. holds_of t e r + at_depth d (edges_in n) e r) (sym (tail_all m)); reserved = λ e. refl }
 

@@ -1,5 +1,5 @@
 -- One row counted anew, added or taken out.
-use Rattle.std.specs.Prelude.{◌≡◌, ℕ, zero, suc, ◌+◌, ◌-◌, ◌<◌, ◌≤◌, ◌≢◌, cond, nat_eq, refl, Option, None, Some}
+use Rattle.std.specs.Prelude.{◌≡◌, ℕ, suc, ◌+◌, ◌<◌, ◌≤◌, ◌≢◌, refl, None, Some}
 use Rattle.std.proofs.Common.{sym, ◌∙◌, ap, subst, arith}
 use Rattle.std.specs.Ordering.{nat_cmp}
 use Rattle.std.specs.Cmp.{nat_cmp_total as total}
@@ -12,9 +12,10 @@ use Rattle.trie_node.specs.declared.node.Node.{Node}
 use Rattle.trie_node.specs.Sets.{edges_of, hash_of_node}
 use Rattle.trie_context.specs.Rows.{Rows, node_set, row_set, sets_over}
 use Rattle.trie_context.specs.Holds.{count_of, edges_from, holds_over, one_at}
-use Rattle.trie_context.specs.Kept.{IsNode, AreRowsKept, AllKept}
+use Rattle.trie_context.specs.Kept.{IsNode, AllKept}
 use Rattle.trie_context.specs.RowLaws.{fair_at, counted}
-use Rattle.trie_context.proofs.ChangeLemmas.{AreNext, if_same, if_other}
+use Rattle.trie_context.specs.MoveLaws.{if_other, if_same}
+use Rattle.trie_context.proofs.ChangeLemmas.{AreNext}
 
 same_some : {A : Type 0} (x y : A) → Some x ≡ Some y → x ≡ y
 same_some x y e = cc

@@ -1,29 +1,21 @@
 -- One row of the tables counted anew, added or taken out: the tables stay kept, and the holds move by it.
-use Rattle.std.specs.Prelude.{◌≡◌, ℕ, zero, suc, ◌+◌, ◌-◌, ◌<◌, ◌≤◌, ◌≢◌, cond, nat_eq, refl, Option, None, Some, IfSome, IsSome}
+use Rattle.std.specs.Prelude.{◌≡◌, ℕ, zero, suc, ◌+◌, ◌-◌, ◌<◌, ◌≤◌, ◌≢◌, refl, None, Some}
 use Rattle.std.proofs.Common.{sym, ◌∙◌, ap, subst, arith}
-use Rattle.std.specs.Ordering.{nat_cmp}
 use Rattle.std.specs.Cmp.{nat_cmp_total as total}
 use Rattle.std.specs.FinMap as map
 use Rattle.std.specs.FinMap.{nat_cmp-IsAntisymmetric as exact}
 use Rattle.hypertrie_model.specs.MapLaws.{by_key, get-insert_here, get-insert_other, get-remove_other, get-remove_here}
-use Rattle.node_table.specs.Table.{Row, Table, empty_table, with_row, without_row, HasNoNode}
+use Rattle.node_table.specs.Table.{Row, Table, with_row, without_row, HasNoNode}
 use Rattle.trie_node.specs.declared.node.Node.{Node}
 use Rattle.trie_node.specs.Sets.{edges_of, hash_of_node}
 use Rattle.trie_context.specs.declared.tables.Tables.{Tables}
 use Rattle.trie_context.specs.Rows.{Rows, table_at, put_table, rows_at, row_of, set_of}
 use Rattle.trie_context.specs.Holds.{count_of, edges_from, holds_over, holds_of, one_at, at_depth, nothing, CountsRiseBy, RowsStay, SameReserved}
 use Rattle.trie_context.specs.Kept.{IsNode, AllKept, AreKept, AreMoved}
-use Rattle.trie_context.specs.RowLaws.{counted, fair_at}
-use Rattle.trie_context.proofs.ChangeLemmas.{AreNext, put_rows, put_here, put_other, put_kept, put_holds, same_or_not, if_same, if_other}
+use Rattle.trie_context.specs.RowLaws.{counted}
+use Rattle.trie_context.specs.MoveLaws.{from_one, less_one, if_other, if_same, moved_as, same_or_not, zero_at}
+use Rattle.trie_context.proofs.ChangeLemmas.{AreNext, put_rows, put_here, put_other, put_kept, put_holds}
 use Rattle.trie_context.proofs.RowChanges.{at_insert, at_remove, count_insert, count_remove, edges_count, edges_insert, edges_remove, next_count, next_add, next_remove}
-
--- a depth with rows is one above another number
-pub from_one : (P : ℕ → Type 0) (k : ℕ) → 1 ≤ k → ((j : ℕ) → P (suc j)) → P k
-from_one P zero low h = absurd (omega arith)
-from_one P (suc j) low h = h j
-
-pub less_one : (j : ℕ) → j ≡ suc j - 1
-less_one j = omega arith
 
 module _ (t : Tables) where
   rows_put : (j : ℕ) → suc j ≤ 3 → (x : Table Node) (e : ℕ) → rows_at (put_table t (suc j) x) e ≡ put_rows (rows_at t) (suc j) x.rows e
@@ -103,27 +95,6 @@ module _ (t : Tables) where
           holds = λ e r. ap (λ all. holds_over all e r + (at_depth (suc j) given e r + at_depth j more e r)) is ∙ put_holds mixed (rows_at t) kept j x.rows next gained given more less counts edges e r;
           reserved = reserved_put j le x reserved;
         }
-
-zero_at : (d e r : ℕ) → at_depth d (λ _. 0) e r ≡ 0
-zero_at d e r = same_or_not e d _ (λ is. if_same e d 0 0 is) (λ ne. if_other e d 0 0 ne)
-
--- the same moves, otherwise written
-pub moved_as : {mixed : ℕ → ℕ → ℕ → ℕ → ℕ} {t u : Tables} {gained given : ℕ → ℕ → ℕ} → AreMoved mixed t u gained given → (more less : ℕ → ℕ → ℕ) → ((d r : ℕ) → gained d r + less d r ≡ given d r + more d r) → AreMoved mixed t u more less
-moved_as m more less same = record { kept = m.kept; holds = λ d r. omega (arith, m.holds d r, same d r); reserved = m.reserved }
-
--- one move after another
-pub moved_on : {mixed : ℕ → ℕ → ℕ → ℕ → ℕ} {t u v : Tables} {gained given gained2 given2 : ℕ → ℕ → ℕ} → AreMoved mixed t u gained given → AreMoved mixed u v gained2 given2
-    → (more less : ℕ → ℕ → ℕ) → ((d r : ℕ) → (gained d r + gained2 d r) + less d r ≡ (given d r + given2 d r) + more d r) → AreMoved mixed t v more less
-moved_on m n more less same = record { kept = n.kept; holds = λ d r. omega (arith, m.holds d r, n.holds d r, same d r); reserved = λ d. n.reserved d ∙ m.reserved d }
-
-pub rows_as_before : (t : Tables) → RowsStay t t
-rows_as_before t d r row at = (row, at, refl)
-
-pub rows_stay_on : (t u v : Tables) → RowsStay t u → RowsStay u v → RowsStay t v
-rows_stay_on t u v first second d r row at =
-    let a = first d r row at in
-    let b = second d r a.0 a.1 in
-    (b.0, b.1, b.2 ∙ a.2)
 
 module _ (mixed : ℕ → ℕ → ℕ → ℕ → ℕ) (t : Tables) (kept : AreKept mixed t) (k : ℕ) (low : 1 ≤ k) (high : k ≤ 3) (i : ℕ) where
   pub bumped : (row : Row Node) → row_of t k i ≡ Some row → (u : Tables) → u ≡ put_table t k (with_row (table_at t k) i (record row { count = row.count + 1 })) → AreMoved mixed t u (at_depth k (one_at i)) nothing
@@ -216,9 +187,6 @@ module _ (t : Tables) where
       (λ j le. zero_counts (suc j) (put_table t (suc j) (without_row (table_at t (suc j)) i)) (counts_put j le _ (λ _. 0) (λ r. same_or_not r i _
       (λ is. let c : count_of (map.get (map.remove (rows_at t (suc j)) i) r) ≡ 0 = ap (λ q. count_of (map.get (map.remove (rows_at t (suc j)) i) q)) is ∙ ap count_of (get-remove_here total exact (rows_at t (suc j)) i) in omega arith)
       (λ ne. let c : count_of (map.get (map.remove (rows_at t (suc j)) i) r) ≡ count_of (row_of t (suc j) r) = ap count_of (get-remove_other total exact (rows_at t (suc j)) i r ne) in omega arith)))) high
-
-pub counts_on : (t u v : Tables) (first second most : ℕ → ℕ → ℕ) → CountsRiseBy t u first → CountsRiseBy u v second → ((d r : ℕ) → first d r + second d r ≤ most d r) → CountsRiseBy t v most
-counts_on t u v first second most a b le d r = omega (arith, a d r, b d r, le d r)
 
 -- which rows there are after a change of one
 module _ (t : Tables) (k : ℕ) (low : 1 ≤ k) (high : k ≤ 3) (i : ℕ) where

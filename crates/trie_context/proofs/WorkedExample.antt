@@ -1,5 +1,5 @@
 -- The worked example of the tests: the keys 2 and 3, and the pairs of one key before each of them, under a mix that is 0 always.
-use Rattle.std.specs.Prelude.{◌≡◌, ℕ, zero, suc, ◌+◌, ◌-◌, ◌<◌, ◌≤◌, ◌^◌, ◌≢◌, ◌&&◌, ◌||◌, Bool, true, false, cond, nat_eq, List, [], ◌∷◌, refl, Option, None, Some, option_map}
+use Rattle.std.specs.Prelude.{◌≡◌, ℕ, ◌<◌, ◌&&◌, ◌||◌, Bool, true, false, cond, List, [], ◌∷◌, refl, Option, None, Some}
 use Rattle.std.proofs.Common.{sym, ◌∙◌, ap, subst, arith}
 use Rattle.std.proofs.lemmas.Cmp.{lists_total}
 use Rattle.std.specs.Ordering.{nat_cmp, eq_by_cmp}
@@ -14,19 +14,19 @@ use Rattle.edge_map.specs.declared.edge.Edge.{Edge}
 use Rattle.edge_map.specs.declared.edge.Edge.TheVariants.{Key, Node as ToRow}
 use Rattle.edge_map.specs.Edges.{Edges}
 use Rattle.hypertrie_model.specs.IdSets.{IdSet}
-use Rattle.hypertrie_model.specs.Sets.{has, empty, single}
-use Rattle.hypertrie_model.specs.SetLaws.{same_sets, has-single, len-single, tied-itself, tied-apart, tied-is, and_both, or_cases}
+use Rattle.hypertrie_model.specs.Sets.{has, single}
+use Rattle.hypertrie_model.specs.SetLaws.{same_sets, has-single, len-single}
 use Rattle.hypertrie_model.specs.Slices.{slice}
 use Rattle.hypertrie_model.specs.SliceLaws.{has-slice, has-slice_short}
 use Rattle.hypertrie_model.specs.MapLaws.{by_key, get-insert_here, get-insert_other}
-use Rattle.hypertrie_model.specs.Unions.{union_over, has_under}
-use Rattle.hypertrie_model.specs.UnionLaws.{has-union_over, has-union_over_nil, tied-cons}
-use Rattle.hypertrie_model.specs.UnionSizes.{slice-union_over, set_under, len-union_over, len-union_over_insert, union_over-empty}
+use Rattle.hypertrie_model.specs.Unions.{has_under}
+use Rattle.hypertrie_model.specs.UnionLaws.{has-union_over, tied-cons}
+use Rattle.hypertrie_model.specs.UnionSizes.{slice-union_over, set_under, len-union_over_insert, union_over-empty}
 use Rattle.hypertrie_model.specs.UnionHashes.{xor_over-zero}
 use Rattle.trie_node.specs.declared.node.Node.{Node}
-use Rattle.trie_node.specs.declared.node.Node.TheVariants.{Single, Full}
-use Rattle.trie_node.specs.Sets.{edge_set, key_set_of, pair_set_of, set_over, set_hash, tuple_mix, leads, edges_in, edges_of}
-use Rattle.trie_node.specs.Forms.{IsPairEdge, StandsFor, AreSlices, IsTold, IsKeyNode, IsPairNode, IsFullOfKeys, IsFullOfPairs}
+use Rattle.trie_node.specs.declared.node.Node.TheVariants.{Full}
+use Rattle.trie_node.specs.Sets.{edge_set, key_set_of, pair_set_of, set_hash, tuple_mix}
+use Rattle.trie_node.specs.Forms.{IsPairEdge, StandsFor, AreSlices, IsKeyNode, IsPairNode}
 
 -- the mix of the example
 abbrev pub zero_mix : ℕ → ℕ → ℕ → ℕ → ℕ

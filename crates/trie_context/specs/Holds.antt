@@ -2,7 +2,7 @@
 use Rattle.std.specs.Prelude.{◌≡◌, ℕ, suc, ◌+◌, ◌-◌, ◌<◌, ◌≤◌, ◌^◌, cond, nat_eq, Option, None, Some}
 use Rattle.std.specs.FinMap as map
 use Rattle.hypertrie_model.specs.Folds.{sum_over}
-use Rattle.node_table.specs.Table.{Row, Table}
+use Rattle.node_table.specs.Table.{Row}
 use Rattle.trie_node.specs.declared.node.Node.{Node}
 use Rattle.trie_node.specs.Sets.{edges_of}
 use Rattle.trie_context.specs.declared.tables.Tables.{Tables}
@@ -34,6 +34,10 @@ at_depth d n e r = cond (nat_eq e d) (n r) 0
 -- the count of every row leaves room for more
 abbrev pub HasRoom : Tables → Type 0
 HasRoom t = (d r : ℕ) (row : Row Node) → row_of t d r ≡ Some row → row.count < 2 ^ 100
+
+-- the count of every row leaves room for one more from each key of a map
+abbrev pub HasRoomForMap : Tables → Type 0
+HasRoomForMap t = (d r : ℕ) → count_of (row_of t d r) + 2 ^ 32 ≤ 2 ^ 100
 
 -- no count rose by more than this
 abbrev pub CountsRiseBy : Tables → Tables → (ℕ → ℕ → ℕ) → Type 0

@@ -2,3 +2,14 @@ pub mod Rows
 pub mod Holds
 pub mod Kept
 pub mod RowLaws
+pub mod MoveLaws
+pub mod StayLaws
+pub mod FitEdges
+pub mod EdgeLaws
+pub mod NodeLaws
+pub mod Roots
+pub mod Shape
+pub mod EdgeCounts
+pub mod ShapeLaws
+pub mod RootShape
+pub mod RootLaws

@@ -1,6 +1,6 @@
 -- What follows from kept rows: no two rows of a depth stand for one set, counts are holds and edges, and tables with equal holds in which each row stays are equal.
-use Rattle.std.specs.Prelude.{◌≡◌, ℕ, zero, suc, ◌+◌, ◌-◌, ◌<◌, ◌≤◌, ◌≢◌, cond, nat_eq, refl, Option, None, Some, IsSome, is_some, true, false}
-use Rattle.std.proofs.Common.{sym, ◌∙◌, ap, subst, arith}
+use Rattle.std.specs.Prelude.{◌≡◌, ℕ, zero, suc, ◌+◌, ◌<◌, ◌≤◌, refl, Option, None, Some, IsSome, is_some, true, false}
+use Rattle.std.proofs.Common.{sym, ◌∙◌, ap, arith}
 use Rattle.std.specs.Ordering.{nat_cmp}
 use Rattle.std.specs.Cmp.{nat_cmp_total as total}
 use Rattle.std.specs.Cmp.Lexicographic.{slice_cmp}
@@ -9,11 +9,10 @@ use Rattle.std.specs.FinMap.{nat_cmp-IsAntisymmetric as exact}
 use Rattle.std.specs.FinSet as set
 use native.Mathlib.Decide.{dec_lt}
 use Rattle.hypertrie_model.specs.IdSets.{IdSet}
-use Rattle.hypertrie_model.specs.Folds.{sum_over}
-use Rattle.hypertrie_model.specs.FoldLaws.{sum_over-has, sum_over-empty, sum_over-part}
+use Rattle.hypertrie_model.specs.FoldLaws.{sum_over-has, sum_over-empty}
 use Rattle.hypertrie_model.specs.MapLaws.{same_maps}
 use Rattle.edge_map.specs.declared.edge.Edge.{Edge}
-use Rattle.edge_map.specs.declared.edge.Edge.TheVariants.{Key, Node as ToRow}
+use Rattle.edge_map.specs.declared.edge.Edge.TheVariants.{Key}
 use Rattle.edge_map.specs.Edges.{Edges}
 use Rattle.node_table.specs.Table.{Row, Table}
 use Rattle.trie_node.specs.declared.node.Node.{Node}
@@ -22,7 +21,7 @@ use Rattle.trie_node.specs.Sets.{leads, edges_in, edges_of, set_hash, hash_of_no
 use Rattle.trie_node.specs.Forms.{IsKeyNode}
 use Rattle.trie_node.specs.FormLaws.{SameBelow, set_same, pair_node_same, triple_node_same, key_node, pair_node, triple_node}
 use Rattle.trie_context.specs.declared.tables.Tables.{Tables}
-use Rattle.trie_context.specs.Rows.{Rows, no_tables, table_at, rows_at, row_of, node_set, row_set, sets_over, set_of}
+use Rattle.trie_context.specs.Rows.{Rows, no_tables, rows_at, row_of, node_set, row_set, sets_over, set_of}
 use Rattle.trie_context.specs.Holds.{count_of, edges_from, holds_over, holds_of, RowsStay, SameReserved}
 use Rattle.trie_context.specs.Kept.{IsNode, AreRowsKept, AllKept, AreKept}
 
@@ -36,7 +35,7 @@ keys_lead a r keys = none_positive (edges_in a r) (λ pos.
     let z : leads p.1 r ≡ 0 = ap (λ e. leads e r) (keys p.0 p.1 p.2) in
     omega (arith, p.3))
 
-nothing_leads : (m : Edges) (r : ℕ) → m ≡ map.empty → edges_in m r ≡ 0
+pub nothing_leads : (m : Edges) (r : ℕ) → m ≡ map.empty → edges_in m r ≡ 0
 nothing_leads m r is = ap (λ n. edges_in n r) is ∙ sum_over-empty total exact (λ _ e. leads e r)
 
 pub key_node_edges : (hash : IdSet → ℕ) (node : Node) (r : ℕ) → IsKeyNode hash node → edges_of node r ≡ 0

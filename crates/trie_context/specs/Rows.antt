@@ -6,7 +6,7 @@ use Rattle.hypertrie_model.specs.IdSets.{IdSet}
 use Rattle.hypertrie_model.specs.Sets.{empty}
 use Rattle.edge_map.specs.declared.edge.Edge.{Edge}
 use Rattle.edge_map.specs.declared.edge.Edge.TheVariants.{Key, Node as ToRow}
-use Rattle.node_table.specs.Table.{Row, Table, empty_table, with_row, without_row}
+use Rattle.node_table.specs.Table.{Row, Table, empty_table}
 use Rattle.trie_node.specs.declared.node.Node.{Node}
 use Rattle.trie_node.specs.Sets.{key_set_of, pair_set_of, triple_set_of}
 use Rattle.trie_context.specs.declared.tables.Tables.{Tables}

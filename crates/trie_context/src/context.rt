@@ -1,15 +1,18 @@
 //! The tables of a graph and the calls that keep them.
-ghost use Rattle.std.specs.Prelude.{◌≡◌, ◌≢◌, ℕ, ◌+◌, ◌-◌, ◌≤◌, Some, IsSome, IsNone, IfSome, IfOk, OnOk, OnErr};
-ghost use Rattle.trie_node.specs.Sets.{leads, edges_of};
+ghost use Rattle.std.specs.Prelude.{◌≡◌, ◌≢◌, ℕ, ◌+◌, ◌-◌, ◌≤◌, ◌^◌, Some, IsSome, IsNone, IfSome, IfOk, OnOk, OnErr};
+ghost use Rattle.std.specs.FinMap as map;
+ghost use Rattle.edge_map.specs.declared.edge.Edge.{Edge};
+ghost use Rattle.trie_node.specs.Sets.{leads, edges_in, edges_of};
 ghost use Rattle.trie_context.specs.Rows.{no_tables, row_of, node_of, node_set, set_of, LeadsToRow};
-ghost use Rattle.trie_context.specs.Holds.{holds_of, one_at, at_depth, nothing, HasRoom, CountsRiseBy, RowsStay};
+ghost use Rattle.trie_context.specs.Holds.{holds_of, one_at, at_depth, nothing, HasRoom, HasRoomForMap, CountsRiseBy, RowsStay};
 ghost use Rattle.trie_context.specs.Kept.{IsNode, AreKept, AreMoved};
 
 use crate::held::Held;
-use crate::intern::{intern_row, retain_row};
-use crate::release::release_row;
+use crate::intern::intern_row;
+use crate::release::{release_edge, release_map, release_row};
+use crate::retain::{retain_edge, retain_map, retain_row};
 use crate::tables::Tables;
-use edge_map::Edge;
+use edge_map::{Edge, EdgeMap};
 use std::alloc::Global;
 use std::marker::{Model, PhantomData};
 use std::sync::ledger::Ledger;
@@ -103,10 +106,20 @@ impl<M: Mix> Context<M> {
         ensures ticks { retains.new ≡ retains.old + 1 }
     {
         retains.tick();
-        match edge {
-            Edge::Key(_) => {}
-            Edge::Node(row) => retain_row::<M>(&mut self.tables, L::DEPTH - 1, row),
-        }
+        retain_edge::<M>(&mut self.tables, L::DEPTH - 1, edge);
+    }
+
+    /// A hold on the row that each edge of a map of a node of this level leads to, one for each edge.
+    pub fn retain_map<L: Level, W: Ledger>(&mut self, edges: &EdgeMap, retains: &mut Steps<W>)
+        requires there { (k : ℕ) (e : Edge) → map.get edges.now k ≡ Some e → LeadsToRow self.old (L.DEPTH - 1) e }
+        requires room { HasRoomForMap self.old }
+        ensures moved { AreMoved M.mixed self.old self.new (at_depth (L.DEPTH - 1) (edges_in edges.now)) nothing }
+        ensures counts { CountsRiseBy self.old self.new (at_depth (L.DEPTH - 1) (edges_in edges.now)) }
+        ensures few { CountsRiseBy self.old self.new (λ d r. 2 ^ 32) }
+        ensures stay { RowsStay self.old self.new }
+        ensures ticks { retains.new ≡ retains.old + map.len edges.now }
+    {
+        retain_map::<M, W>(&mut self.tables, L::DEPTH - 1, edges, retains);
     }
 
     /// Gives the hold up. A row that nothing leads to any more goes away, and its edges are given up.
@@ -117,6 +130,26 @@ impl<M: Mix> Context<M> {
         ensures came { RowsStay self.new self.old }
     {
         release_row::<M>(&mut self.tables, L::DEPTH, held.into_row());
+    }
+
+    /// Gives up the hold of an edge of a node of this level; a key holds nothing.
+    pub fn release_edge<L: Level>(&mut self, edge: Edge)
+        requires held { (r : ℕ) → leads edge r ≤ holds_of self.old (L.DEPTH - 1) r }
+        ensures moved { AreMoved M.mixed self.old self.new nothing (at_depth (L.DEPTH - 1) (leads edge)) }
+        ensures counts { CountsRiseBy self.old self.new nothing }
+        ensures came { RowsStay self.new self.old }
+    {
+        release_edge::<M>(&mut self.tables, L::DEPTH - 1, edge);
+    }
+
+    /// Gives up the holds of all edges of a map of a node of this level.
+    pub fn release_map<L: Level>(&mut self, edges: &EdgeMap)
+        requires held { (r : ℕ) → edges_in edges.now r ≤ holds_of self.old (L.DEPTH - 1) r }
+        ensures moved { AreMoved M.mixed self.old self.new nothing (at_depth (L.DEPTH - 1) (edges_in edges.now)) }
+        ensures counts { CountsRiseBy self.old self.new nothing }
+        ensures came { RowsStay self.new self.old }
+    {
+        release_map::<M>(&mut self.tables, L::DEPTH - 1, edges);
     }
 
     /// The row that stands for the set of the node.

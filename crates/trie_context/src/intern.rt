@@ -1,7 +1,7 @@
 //! A node put into its table, or found there.
-ghost use Rattle.std.specs.Prelude.{◌≡◌, ℕ, ◌-◌, ◌≤◌, IfOk, OnOk, OnErr, Some, IsSome};
+ghost use Rattle.std.specs.Prelude.{◌≡◌, ℕ, ◌-◌, ◌≤◌, IfOk, OnOk, OnErr, Some};
 ghost use Rattle.trie_node.specs.Sets.{edges_of};
-ghost use Rattle.trie_context.specs.Rows.{row_of, node_of, set_of};
+ghost use Rattle.trie_context.specs.Rows.{node_of, set_of};
 ghost use Rattle.trie_context.specs.Holds.{holds_of, one_at, at_depth, nothing, HasRoom, CountsRiseBy, RowsStay};
 ghost use Rattle.trie_context.specs.Kept.{IsNode, AreKept, AreMoved};
 
@@ -42,18 +42,4 @@ pub fn intern_row<M: Mix>(tables: &mut Tables, depth: usize, node: Node) -> Resu
             }
         },
     }
-}
-
-/// One hold more on a row that is there.
-pub fn retain_row<M: Mix>(tables: &mut Tables, depth: usize, row: usize)
-    requires kept { AreKept M.mixed tables.old }
-    requires low { 1 ≤ depth }
-    requires high { depth ≤ 3 }
-    requires there { IsSome (row_of tables.old depth row) }
-    requires room { HasRoom tables.old }
-    ensures moved { AreMoved M.mixed tables.old tables.new (at_depth depth (one_at row)) nothing }
-    ensures counts { CountsRiseBy tables.old tables.new (at_depth depth (one_at row)) }
-    ensures stay { RowsStay tables.old tables.new }
-{
-    tables.bump(depth, row);
 }

@@ -62,9 +62,8 @@ pub fn release_edges<M: Mix>(tables: &mut Tables, depth: usize, node: &Node)
 
 /// Gives the edges of one map up.
 #[cycle(release)]
-fn release_map<M: Mix>(tables: &mut Tables, depth: usize, edges: &EdgeMap)
+pub fn release_map<M: Mix>(tables: &mut Tables, depth: usize, edges: &EdgeMap)
     requires kept { AreKept M.mixed tables.old }
-    requires low { 1 ≤ depth }
     requires high { depth ≤ 3 }
     requires held { (r : ℕ) → edges_in edges.now r ≤ holds_of tables.old depth r }
     ensures moved { AreMoved M.mixed tables.old tables.new nothing (at_depth depth (edges_in edges.now)) }
@@ -82,11 +81,10 @@ fn release_map<M: Mix>(tables: &mut Tables, depth: usize, edges: &EdgeMap)
     }
 }
 
-/// Gives one edge up.
+/// Gives one edge up. A key holds nothing.
 #[cycle(release)]
-fn release_edge<M: Mix>(tables: &mut Tables, depth: usize, edge: Edge)
+pub fn release_edge<M: Mix>(tables: &mut Tables, depth: usize, edge: Edge)
     requires kept { AreKept M.mixed tables.old }
-    requires low { 1 ≤ depth }
     requires high { depth ≤ 3 }
     requires held { (r : ℕ) → leads edge r ≤ holds_of tables.old depth r }
     ensures moved { AreMoved M.mixed tables.old tables.new nothing (at_depth depth (leads edge)) }

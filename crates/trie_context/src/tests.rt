@@ -1,4 +1,4 @@
-//! Two sets of pairs that share one key set, with one hash for all nodes.
+//! Two sets of pairs that share one key set, with one hash for all nodes, and a map of edges retained and given up.
 ghost use Rattle.std.specs.Prelude.{◌≡◌, ◌<◌, None, Some, IfOk};
 ghost use Rattle.std.specs.FinMap as map;
 ghost use Rattle.edge_map.specs.declared.edge.Edge.{Edge};
@@ -74,6 +74,30 @@ fn shared<W: Ledger>(alloc: Global, steps: &mut Steps<W>) -> Result<(u128, u64, 
     ))
 }
 
+/// The count of the row of the keys while a map that leads to it has its holds too, and how many rows there are once
+/// the map and the edge are given up.
+fn borrowed<W: Ledger>(alloc: Global, steps: &mut Steps<W>) -> Result<(u128, u64), Memory> {
+    let mut context = Context::<ConstMix>::new(alloc);
+    let keys = context.intern::<L1, W>(two_keys(alloc, Id(2), Id(3))?, steps)?;
+    let row = keys.row();
+    let edge = keys.into_edge();
+    let edges = EdgeMap::new(alloc).with(&[(Id(1), Some(edge))])?;
+    context.retain_map::<L2, W>(&edges, steps);
+    let count = context.tables().one.count(row);
+    context.release_map::<L2>(&edges);
+    context.release_edge::<L2>(edge);
+    Ok((count, context.tables().one.len()))
+}
+
+fn counted_borrowed<W: Ledger>(alloc: Global, blank: Blank) -> Result<(u128, u64), Memory>
+    requires name { blank.name ≡ W.name }
+    requires parts { blank.parts ≡ W.parts }
+    requires whole { 0 < W.parts }
+{
+    let mut steps = Steps::<W>::new(blank);
+    borrowed(alloc, &mut steps)
+}
+
 fn counted<W: Ledger>(alloc: Global, blank: Blank) -> Result<(u128, u64, u64), Memory>
     requires name { blank.name ≡ W.name }
     requires parts { blank.parts ≡ W.parts }
@@ -87,5 +111,12 @@ fn counted<W: Ledger>(alloc: Global, blank: Blank) -> Result<(u128, u64, u64), M
 fn shares_equal_key_sets(rt: HostRuntime) -> Result<(), Memory> {
     let (count, one, two) = counted::<Brand>(rt.alloc(), Blank::new(1))?;
     assert_eq!(rt; (count, one, two), (2, 0, 0));
+    Ok(())
+}
+
+#[test]
+fn retains_and_releases_a_map(rt: HostRuntime) -> Result<(), Memory> {
+    let (count, rows) = counted_borrowed::<Brand>(rt.alloc(), Blank::new(1))?;
+    assert_eq!(rt; (count, rows), (2, 0));
     Ok(())
 }

@@ -1,10 +1,11 @@
-use Rattle.std.proofs.Common.{◌≡◌, ◌+◌, ◌-◌, ◌<◌, ◌≤◌, ℕ, arith, refl, sym, subst, ap, ◌∙◌, Some, None, Option, IfSome, option_map}
+use Rattle.std.proofs.Common.{◌≡◌, ◌+◌, ◌≤◌, ℕ, arith, refl, sym, subst, ap, ◌∙◌, Some, IfSome, option_map}
 use Rattle.node_table.specs.Table.{Row, with_row}
 use Rattle.trie_node.specs.declared.node.Node.{Node}
 use Rattle.trie_context.specs.declared.tables.Tables.{Tables}
 use Rattle.trie_context.specs.Rows.{table_at, put_table, row_of}
 use Rattle.trie_context.specs.Holds.{count_of, one_at, at_depth, nothing, CountsRiseBy, RowsStay}
-use Rattle.trie_context.proofs.TableMoves.{added, add_stays, put_row, insert_counts, counts_on}
+use Rattle.trie_context.specs.MoveLaws.{counts_on}
+use Rattle.trie_context.proofs.TableMoves.{added, add_stays, put_row, insert_counts}
 use Rattle.trie_context.proofs.ReleaseLemmas.{if_at, some_row}
 use Rattle.trie_context.proofs.InternLemmas.{no_row, found_moved, found_held, found_on, found_there, found_stays}
 use Rattle.trie_context.proofs.intern.intern_row.Goals as goal

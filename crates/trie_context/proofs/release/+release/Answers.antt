@@ -1,13 +1,13 @@
-use Rattle.std.proofs.Common.{◌≡◌, ◌+◌, ◌-◌, ◌*◌, ◌^◌, ◌<◌, ◌≤◌, ℕ, arith, rules, refl, sym, subst, ap, ◌∙◌, Some, None, Option, IfSome, is_some}
+use Rattle.std.proofs.Common.{◌≡◌, ◌+◌, ◌-◌, ◌≤◌, ℕ, arith, rules, refl, sym, subst, ap, ◌∙◌, Some, IfSome, is_some}
 use Rattle.node_table.specs.Table.{Row, with_row}
 use Rattle.trie_node.specs.declared.node.Node.{Node}
-use Rattle.trie_node.specs.Sets.{leads, edges_in, edges_of}
+use Rattle.trie_node.specs.Sets.{edges_of}
 use Rattle.trie_context.specs.declared.tables.Tables.{Tables}
 use Rattle.trie_context.specs.Rows.{table_at, put_table, row_of}
-use Rattle.trie_context.specs.Holds.{count_of, at_depth, one_at, holds_of, nothing, CountsRiseBy, RowsStay}
-use Rattle.trie_context.specs.Kept.{AreKept, AreMoved}
-use Rattle.trie_context.proofs.TableMoves.{lowered, lower_counts, drop_counts, counts_on, count_came, rows_as_before, rows_stay_on}
-use Rattle.trie_context.proofs.ReleaseLemmas.{if_at, there_row, no_holds, at_none, moved_none, walk_begins, walk_ends, walk_held, walk_on, row_dropped, dropped_edges, dropped_on, dropped_rows}
+use Rattle.trie_context.specs.Holds.{count_of, at_depth, holds_of, nothing, CountsRiseBy, RowsStay}
+use Rattle.trie_context.specs.MoveLaws.{at_none, counts_on, moved_none, no_holds, rows_as_before, rows_stay_on, there_row}
+use Rattle.trie_context.proofs.TableMoves.{lowered, lower_counts, drop_counts, count_came}
+use Rattle.trie_context.proofs.ReleaseLemmas.{if_at, edge_held, edge_low, walk_begins, walk_ends, walk_held, walk_on, row_dropped, dropped_edges, dropped_on, dropped_rows}
 use Rattle.trie_context.proofs.release.+release.Goals as goal
 
 pub release_edges-returns-then-depth-eq0-clause-moved : goal.release_edges-returns-then-depth-eq0-clause-moved
@@ -22,7 +22,7 @@ pub release_map-release_edge-requires : goal.release_map-release_edge-requires
 release_map-release_edge-requires g t c =
     let inv = c.loop-key.invariant.0 in
     let held = walk_held g.M.Mix.mixed c.args.tables.now c.loop-key.tables c.args.depth c.args.edges.now c.loop-key.from.0 inv c.in-Some.key.0 c.in-Some.edge c.in-Some.ensures.there c.in-Some.ensures.from c.in-Some.ensures.least c.requires.held in
-    λ κs within. (search rules, (search rules, (inv.kept, (c.requires.low, (c.requires.high, held)))))
+    λ κs within. (search rules, (search rules, (inv.kept, (c.requires.high, held))))
 
 pub release_map-returns-then-key-clause-moved : goal.release_map-returns-then-key-clause-moved
 release_map-returns-then-key-clause-moved g t c =
@@ -40,6 +40,12 @@ release_map-loop-key-preserved g t c = (
 pub release_map-returns-clause-moved : goal.release_map-returns-clause-moved
 release_map-returns-clause-moved g t c =
     walk_ends g.M.Mix.mixed c.args.tables.now c.loop-key.tables c.args.depth c.args.edges.now c.loop-key.from.0 c.loop-key.invariant.0 (c.seek.ensures.none (ap is_some c.in_default.is))
+
+pub release_edge-release_row-requires : goal.release_edge-release_row-requires
+release_edge-release_row-requires g t c =
+    let low = edge_low c.args.tables.now c.args.depth c.args.edge c.in-Node.row c.in-Node.is c.requires.held in
+    let held = edge_held c.args.tables.now c.args.depth c.args.edge c.in-Node.row c.in-Node.is c.requires.held in
+    λ κs within. (search rules, (search rules, (c.requires.kept, (low, (c.requires.high, held)))))
 
 -- the row that lost its last hold
 last_one : (t : Tables) (d i n : ℕ) → IfSome (row_of t d i) (λ r. r.count ≡ n) → n ≤ 1 → (row : Row Node) → row_of t d i ≡ Some row → row.count ≤ 1

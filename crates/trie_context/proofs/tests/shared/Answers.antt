@@ -1,18 +1,18 @@
-use Rattle.std.proofs.Common.{◌≡◌, ◌≤◌, ◌<◌, ◌+◌, ℕ, arith, ap, sym, subst, ◌∙◌, Some, refl, IsSome}
+use Rattle.std.proofs.Common.{◌≡◌, ◌<◌, ◌+◌, ℕ, arith, ap, sym, subst, ◌∙◌, Some, IsSome}
 use Rattle.std.specs.FinMap as map
 use Rattle.trie_depth.specs.declared.id.Id.{Id}
-use Rattle.edge_map.specs.declared.edge.Edge.{Edge}
-use Rattle.edge_map.specs.declared.edge.Edge.TheVariants.{Key, Node as ToRow}
+use Rattle.edge_map.specs.declared.edge.Edge.TheVariants.{Node as ToRow}
 use Rattle.trie_node.specs.declared.node.Node.{Node}
 use Rattle.trie_node.specs.declared.node.Node.TheVariants.{Full}
-use Rattle.trie_node.specs.Sets.{set_hash, key_set_of, edges_of}
+use Rattle.trie_node.specs.Sets.{set_hash, edges_of}
 use Rattle.trie_node.specs.Forms.{IsKeyNode, IsPairNode}
 use Rattle.trie_context.specs.declared.tables.Tables.{Tables}
 use Rattle.trie_context.specs.Rows.{no_tables, row_of, node_of, set_of}
 use Rattle.trie_context.specs.Holds.{holds_of, one_at, at_depth, nothing, HasRoom, CountsRiseBy, RowsStay}
 use Rattle.trie_context.specs.Kept.{AreMoved}
+use Rattle.trie_context.specs.MoveLaws.{node_stays, node_there, one_here}
 use Rattle.trie_context.proofs.WorkedExample.{zero_mix, key_node, key_node_form, back_map, pair_node, pair_node_form}
-use Rattle.trie_context.proofs.ExampleSteps.{no_hold, no_count, AreFew, few_more, few_room, node_stays, node_there, keys_set, key_edges, pair_edges, put_keys, held_again, put_pairs, given_pairs, let_go, one_here}
+use Rattle.trie_context.proofs.ExampleSteps.{no_hold, no_count, AreFew, few_more, few_room, keys_set, key_edges, pair_edges, put_keys, held_again, put_pairs, given_pairs, let_go}
 use Rattle.trie_context.proofs.tests.shared.Goals as goal
 
 abbrev zero_id : Id

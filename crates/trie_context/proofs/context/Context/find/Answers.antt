@@ -1,4 +1,4 @@
-use Rattle.std.proofs.Common.{◌≡◌, ◌≢◌, ◌≤◌, ◌-◌, ℕ, zero, suc, sym, subst, ap, ◌∙◌, arith, IsSome}
+use Rattle.std.proofs.Common.{◌≡◌, ◌≢◌, ◌≤◌, ◌-◌, ℕ, suc, sym, subst, ap, ◌∙◌, IsSome}
 use Rattle.node_table.specs.Table.{HasNoNode, HasNoNodeUnder}
 use Rattle.trie_node.specs.declared.node.Node.{Node}
 use Rattle.trie_node.specs.Sets.{hash_of_node}
@@ -6,7 +6,7 @@ use Rattle.trie_context.specs.declared.tables.Tables.{Tables}
 use Rattle.trie_context.specs.Rows.{table_at, row_of, set_of, node_set}
 use Rattle.trie_context.specs.Kept.{IsNode, AreKept}
 use Rattle.trie_context.specs.RowLaws.{row_there, set_names}
-use Rattle.trie_context.proofs.TableMoves.{from_one, less_one}
+use Rattle.trie_context.specs.MoveLaws.{from_one, less_one}
 use Rattle.trie_context.proofs.InternLemmas.{no_row}
 use Rattle.trie_context.proofs.context.Context.find.Goals as goal
 

@@ -1,0 +1,12 @@
+mod MapLemmas
+mod BatchLemmas
+mod HandLemmas
+mod HashLemmas
+mod PairLemmas
+mod PairChanges
+mod KeyLemmas
+mod RootLemmas
+mod HoldLemmas
+mod TripleLemmas
+mod KeyNodeLemmas
+mod KeyRowLemmas

@@ -1,0 +1,66 @@
+use Rattle.std.proofs.Common.{◌∙◌, ◌+◌, ℕ, sym, subst, refl, length, arith}
+use Rattle.trie_node.specs.Sets.{edges_in}
+use Rattle.trie_context.specs.Holds.{nothing}
+use Rattle.trie_context.specs.MoveLaws.{moved_as}
+use Rattle.trie_update.specs.Changes.{HasSize}
+use Rattle.trie_update.specs.Rooms.{row_set_at}
+use Rattle.trie_update.proofs.TripleLemmas.{has_size, are_parts, none_is, no_edge, one_whole, whole_is, full_form, root_is, hand_held, given_back, stay_again, err_holds}
+use Rattle.trie_update.proofs.triples.change_root.Goals as goal
+
+pub changed_size-size-requires : goal.changed_size-size-requires
+changed_size-size-requires g c = subst (λ n. HasSize c.args.change n (length c.args.batch.now)) (sym c.triple_figures-size.ensures.size) (has_size c.args.change (row_set_at c.args.context.now c.args.old) c.args.batch.now c.requires.once c.requires.change c.requires.size)
+
+pub returns-then-size-eq0-clause-set : goal.returns-then-size-eq0-clause-set
+returns-then-size-eq0-clause-set g c =
+    let parts = are_parts c.tables.ensures.kept c.args.change c.args.old c.args.batch.now c.requires.once c.requires.change c.change_positions.new.context c.triple_figures-size.result.0 c.triple_figures-size.result.1 c.changed_size-size.result c.toggled_triples-hash.result c.in_ok-first.first c.in_ok-first.second c.in_ok-first.third
+    c.triple_figures-size.ensures.size c.triple_figures-size.ensures.hash c.changed_size-size.ensures c.toggled_triples-hash.ensures c.in_ok-first.ensures.first c.in_ok-first.ensures.second c.in_ok-first.ensures.third in
+    none_is c.change_positions.new.context parts c.if-size-eq0.true
+
+pub returns-then-size-eq0-clause-moved : goal.returns-then-size-eq0-clause-moved
+returns-then-size-eq0-clause-moved g c =
+    let parts = are_parts c.tables.ensures.kept c.args.change c.args.old c.args.batch.now c.requires.once c.requires.change c.change_positions.new.context c.triple_figures-size.result.0 c.triple_figures-size.result.1 c.changed_size-size.result c.toggled_triples-hash.result c.in_ok-first.first c.in_ok-first.second c.in_ok-first.third
+    c.triple_figures-size.ensures.size c.triple_figures-size.ensures.hash c.changed_size-size.ensures c.toggled_triples-hash.ensures c.in_ok-first.ensures.first c.in_ok-first.ensures.second c.in_ok-first.ensures.third in
+    moved_as c.in_ok-first.ensures.moved nothing nothing (λ d r. omega (arith, no_edge c.change_positions.new.context parts c.if-size-eq0.true d r))
+
+pub lone_triple-triple-requires-clause-lone : goal.lone_triple-triple-requires-clause-lone
+lone_triple-triple-requires-clause-lone g c =
+    let parts = are_parts c.tables.ensures.kept c.args.change c.args.old c.args.batch.now c.requires.once c.requires.change c.change_positions.new.context c.triple_figures-size.result.0 c.triple_figures-size.result.1 c.changed_size-size.result c.toggled_triples-hash.result c.in_ok-first.first c.in_ok-first.second c.in_ok-first.third
+    c.triple_figures-size.ensures.size c.triple_figures-size.ensures.hash c.changed_size-size.ensures c.toggled_triples-hash.ensures c.in_ok-first.ensures.first c.in_ok-first.ensures.second c.in_ok-first.ensures.third in
+    one_whole c.change_positions.new.context parts c.if-size-eq1.true
+
+pub release_positions-requires : goal.release_positions-requires
+release_positions-requires g c =
+    let hand : ℕ → ℕ = λ r. edges_in c.in_ok-first.first r + (edges_in c.in_ok-first.second r + edges_in c.in_ok-first.third r) in
+    hand_held hand c.in_ok-first.ensures.moved refl
+
+pub returns-then-size-eq1-clause-set : goal.returns-then-size-eq1-clause-set
+returns-then-size-eq1-clause-set g c =
+    let parts = are_parts c.tables.ensures.kept c.args.change c.args.old c.args.batch.now c.requires.once c.requires.change c.change_positions.new.context c.triple_figures-size.result.0 c.triple_figures-size.result.1 c.changed_size-size.result c.toggled_triples-hash.result c.in_ok-first.first c.in_ok-first.second c.in_ok-first.third
+    c.triple_figures-size.ensures.size c.triple_figures-size.ensures.hash c.changed_size-size.ensures c.toggled_triples-hash.ensures c.in_ok-first.ensures.first c.in_ok-first.ensures.second c.in_ok-first.ensures.third in
+    sym c.lone_triple-triple.ensures ∙ whole_is c.change_positions.new.context parts
+
+pub returns-then-size-eq1-clause-stay : goal.returns-then-size-eq1-clause-stay
+returns-then-size-eq1-clause-stay g c = stay_again c.tables.ensures.kept c.in_ok-first.ensures.moved c.in_ok-first.ensures.stay c.release_positions.ensures.moved c.release_positions.ensures.came (λ d r. refl)
+
+pub intern-requires-clause-form : goal.intern-requires-clause-form
+intern-requires-clause-form g c =
+    let parts = are_parts c.tables.ensures.kept c.args.change c.args.old c.args.batch.now c.requires.once c.requires.change c.change_positions.new.context c.triple_figures-size.result.0 c.triple_figures-size.result.1 c.changed_size-size.result c.toggled_triples-hash.result c.in_ok-first.first c.in_ok-first.second c.in_ok-first.third
+    c.triple_figures-size.ensures.size c.triple_figures-size.ensures.hash c.changed_size-size.ensures c.toggled_triples-hash.ensures c.in_ok-first.ensures.first c.in_ok-first.ensures.second c.in_ok-first.ensures.third in
+    let zero = c.if-size-eq0.false in
+    let one = c.if-size-eq1.false in
+    full_form c.change_positions.new.context parts (omega arith)
+
+pub intern-requires-clause-held : goal.intern-requires-clause-held
+intern-requires-clause-held g c =
+    let hand : ℕ → ℕ = λ r. edges_in c.in_ok-first.first r + (edges_in c.in_ok-first.second r + edges_in c.in_ok-first.third r) in
+    hand_held hand c.in_ok-first.ensures.moved refl
+
+pub returns-in_err-intern-clause-kept : goal.returns-in_err-intern-clause-kept
+returns-in_err-intern-clause-kept g c = err_holds c.from_residual-in_err-intern.result
+    (given_back c.tables.ensures.kept c.in_ok-first.ensures.moved c.in_ok-first.ensures.stay refl c.in_err-intern.ensures.given c.in_err-intern.ensures.came (λ d r. refl))
+
+pub returns-clause-set : goal.returns-clause-set
+returns-clause-set g c =
+    let parts = are_parts c.tables.ensures.kept c.args.change c.args.old c.args.batch.now c.requires.once c.requires.change c.change_positions.new.context c.triple_figures-size.result.0 c.triple_figures-size.result.1 c.changed_size-size.result c.toggled_triples-hash.result c.in_ok-first.first c.in_ok-first.second c.in_ok-first.third
+    c.triple_figures-size.ensures.size c.triple_figures-size.ensures.hash c.changed_size-size.ensures c.toggled_triples-hash.ensures c.in_ok-first.ensures.first c.in_ok-first.ensures.second c.in_ok-first.ensures.third in
+    root_is c.change_positions.new.context parts c.intern.new.self c.in_ok-first.ensures.moved.kept c.in_ok-intern.ensures.stay c.in_ok-intern.field-0 c.in_ok-intern.ensures.there

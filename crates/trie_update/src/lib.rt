@@ -1,0 +1,22 @@
+//! A batch of triples put into a graph, or taken out of it. A change goes down by the depth: that of the graph makes
+//! those of its slices by one key, and these make those of their key sets. Each changed node is copied, changed and
+//! stored once; what is not changed is shared.
+//!
+//! `specs/Batches.antt` says which sets batches are, and `specs/Changes.antt` what a change makes of a set.
+#![tactic(auto)]
+
+mod batch;
+mod change;
+mod hand;
+mod hash;
+mod keys;
+mod levels;
+mod pair_map;
+mod pairs;
+mod runs;
+mod triple_map;
+mod triples;
+mod update;
+
+pub use trie_context::Root;
+pub use update::{grow, shrink};

@@ -1,0 +1,85 @@
+//! A map of a node of depth two changed.
+ghost use Rattle.std.specs.Prelude.{◌≡◌, ℕ, ◌+◌, ◌≤◌, ◌^◌, [], IfOk, OnOk, OnErr, length};
+ghost use Rattle.edge_map.specs.Entries.{KeysRise};
+ghost use Rattle.edge_map.specs.Edges.{changed};
+ghost use Rattle.trie_depth.specs.Tuples.{pair_tuple};
+ghost use Rattle.trie_node.specs.Sets.{edges_in};
+ghost use Rattle.trie_context.specs.Holds.{at_depth, nothing, CountsRiseBy, RowsStay};
+ghost use Rattle.trie_context.specs.Kept.{AreMoved};
+ghost use Rattle.trie_update.specs.Batches.{set_of_entries, AreInOrder};
+ghost use Rattle.trie_update.specs.Rooms.{LeavesRoom, AllFit, changes_lead, AreChanges, AreChanged};
+
+use crate::change::Change;
+use crate::hand::{Changes, release_changes};
+use crate::keys::change_keys;
+use crate::levels::{changed_map, each_run};
+use crate::runs::pair_run;
+use edge_map::EdgeMap;
+use std::alloc::Global;
+use std::sync::ledger::Ledger;
+use trie_context::Context;
+use trie_depth::{L2, Memory, Mix, Pair, Steps};
+
+/// What each run of pairs makes of the edge under its first key. Whatever the answer, the edges of the changes are in hand.
+fn pair_changes<M: Mix, W: Ledger>(
+    alloc: Global,
+    context: &mut Context<M>,
+    change: Change,
+    old: &EdgeMap,
+    pairs: &[Pair],
+    changes: &mut Changes,
+    interns: &mut Steps<W>,
+) -> Result<(), Memory>
+    requires none { changes.old.items ≡ [] }
+    requires fits { AllFit context.old 1 old.now }
+    requires order { AreInOrder pair_tuple pairs.now }
+    requires change { AreChanges change context.old 1 old.now (set_of_entries pair_tuple pairs.now) }
+    requires room { LeavesRoom context.old (length pairs.now) }
+    ensures rise { KeysRise changes.new.items }
+    ensures changed { OnOk result (AreChanged change context.old context.new 1 old.now (set_of_entries pair_tuple pairs.now) (changed old.now changes.new.items)) }
+    ensures moved { AreMoved M.mixed context.old context.new (at_depth 1 (changes_lead changes.new.items)) nothing }
+    ensures counts { CountsRiseBy context.old context.new (λ _ _. length pairs.now) }
+    ensures stay { RowsStay context.old context.new }
+    ensures ticks { interns.new ≤ interns.old + length pairs.now }
+{
+    // This call tells the proof that the tables are kept.
+    context.tables();
+    each_run!(pairs, changes, pair_run, (key, run) => {
+        change_keys::<M, W>(alloc, context, change, old.get(key), run, interns)
+    })
+}
+
+/// The map of a node of depth two with the edge under the first key of each pair changed by the second keys. The new
+/// map's edges are in hand.
+pub fn change_pair_map<M: Mix, W: Ledger, V: Ledger>(
+    alloc: Global,
+    context: &mut Context<M>,
+    change: Change,
+    old: &EdgeMap,
+    pairs: &[Pair],
+    interns: &mut Steps<W>,
+    retains: &mut Steps<V>,
+) -> Result<EdgeMap, Memory>
+    requires fits { AllFit context.old 1 old.now }
+    requires order { AreInOrder pair_tuple pairs.now }
+    requires change { AreChanges change context.old 1 old.now (set_of_entries pair_tuple pairs.now) }
+    requires room { LeavesRoom context.old (length pairs.now + 2 ^ 32) }
+    ensures changed { IfOk result (AreChanged change context.old context.new 1 old.now (set_of_entries pair_tuple pairs.now)) }
+    ensures moved { IfOk result (λ m. AreMoved M.mixed context.old context.new (at_depth 1 (edges_in m)) nothing) }
+    ensures counts { OnOk result (CountsRiseBy context.old context.new (λ _ _. length pairs.now + 2 ^ 32)) }
+    ensures stay { OnOk result (RowsStay context.old context.new) }
+    ensures kept { OnErr result (context.new ≡ context.old) }
+    ensures ticks { interns.new ≤ interns.old + length pairs.now }
+{
+    // This call tells the proof that the tables are kept.
+    context.tables();
+    let mut changes = Vec::new(alloc);
+    changed_map!(
+        context,
+        L2,
+        old,
+        changes,
+        pair_changes(alloc, context, change, old, pairs, &mut changes, interns),
+        retains
+    )
+}

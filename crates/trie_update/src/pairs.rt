@@ -1,0 +1,159 @@
+//! A set of pairs changed.
+ghost use Rattle.std.specs.Prelude.{◌≡◌, ℕ, ◌+◌, ◌*◌, ◌<◌, ◌≤◌, ◌^◌, IfOk, OnOk, OnErr, length};
+ghost use Rattle.std.specs.FinSet as set;
+ghost use Rattle.hypertrie_model.specs.Changes.{after, IsChange};
+ghost use Rattle.hypertrie_model.specs.IdSets.{IdSet};
+ghost use Rattle.trie_node.specs.Sets.{edges_in, set_hash};
+ghost use Rattle.trie_context.specs.FitEdges.{set_at, StandsAt, option_leads};
+ghost use Rattle.trie_context.specs.Holds.{at_depth, nothing, CountsRiseBy, RowsStay};
+ghost use Rattle.trie_context.specs.Kept.{AreMoved};
+ghost use Rattle.trie_update.specs.Batches.{set_of_entries, AreInOrder, trip_rest};
+ghost use Rattle.trie_update.specs.Changes.{grows};
+ghost use Rattle.trie_update.specs.Nodes.{ArePairParts, IsPairNodeOf};
+ghost use Rattle.trie_update.specs.Rooms.{LeavesRoom, FitsSome, AreSlicesAt};
+
+use crate::batch::pairs_by_key;
+use crate::change::{Change, changed_size};
+use crate::hash::toggled_pairs;
+use crate::pair_map::change_pair_map;
+use edge_map::{Edge, EdgeMap};
+use std::alloc::Global;
+use std::sync::ledger::Ledger;
+use trie_context::Context;
+use trie_depth::{Id, L2, Level, Memory, Mix, Pair, Steps, Trip};
+use trie_node::Node;
+
+/// The edges at a position of the set of pairs that an edge stands for.
+fn pair_edges<M: Mix>(
+    alloc: Global,
+    context: &Context<M>,
+    edge: Option<Edge>,
+    position: usize,
+) -> Result<EdgeMap, Memory>
+    requires position { position < 2 }
+    requires fits { FitsSome context.now 2 edge }
+    ensures { IfOk result (AreSlicesAt context.now 1 (set_at context.now 2 edge) position) }
+{
+    let empty = EdgeMap::new(alloc);
+    match edge {
+        Some(Edge::Node(row)) => match context.tables().two.node(row) {
+            Node::Single(pair) => empty.with(&[(
+                L2::key(*pair, position),
+                Some(Edge::Key(L2::without(*pair, position))),
+            )]),
+            Node::Full { first, second, .. } => {
+                if position == 0 { first } else { second }.with(&[])
+            }
+        },
+        Some(Edge::Key(_)) => Ok(empty),
+        None => Ok(empty),
+    }
+}
+
+/// How many pairs an edge stands for, and the hash of their set.
+fn pair_figures<M: Mix>(context: &Context<M>, edge: Option<Edge>) -> (u64, u64)
+    requires { FitsSome context.now 2 edge }
+    ensures size { result.0 ≡ set.len (set_at context.now 2 edge) }
+    ensures hash { result.1 ≡ set_hash M.mixed 2 (set_at context.now 2 edge) }
+{
+    match edge {
+        Some(Edge::Node(row)) => {
+            let node = context.tables().two.node(row);
+            (node.size(), node.hash_of::<M>())
+        }
+        _ => (0, 0),
+    }
+}
+
+/// The edges at one position of the changed set. They are in hand.
+fn change_pair_position<M: Mix, W: Ledger, V: Ledger>(
+    alloc: Global,
+    context: &mut Context<M>,
+    change: Change,
+    old: Option<Edge>,
+    run: &[Trip],
+    position: usize,
+    interns: &mut Steps<W>,
+    retains: &mut Steps<V>,
+) -> Result<EdgeMap, Memory>
+    requires position { position < 2 }
+    requires fits { FitsSome context.old 2 old }
+    requires order { AreInOrder trip_rest run.now }
+    requires change { IsChange (grows change) (set_at context.old 2 old) (set_of_entries trip_rest run.now) }
+    requires room { LeavesRoom context.old (length run.now + 2 ^ 32) }
+    ensures slices { IfOk result (AreSlicesAt context.new 1 (after (grows change) (set_at context.old 2 old) (set_of_entries trip_rest run.now)) position) }
+    ensures moved { IfOk result (λ m. AreMoved M.mixed context.old context.new (at_depth 1 (edges_in m)) nothing) }
+    ensures counts { OnOk result (CountsRiseBy context.old context.new (λ _ _. length run.now + 2 ^ 32)) }
+    ensures stay { OnOk result (RowsStay context.old context.new) }
+    ensures kept { OnErr result (context.new ≡ context.old) }
+    ensures ticks { interns.new ≤ interns.old + length run.now }
+{
+    let pairs = pairs_by_key(alloc, run, position)?;
+    let edges = pair_edges(alloc, context, old, position)?;
+    change_pair_map(alloc, context, change, &edges, &pairs, interns, retains)
+}
+
+/// The node of a set of pairs with this size, this hash and these edges at its positions.
+fn pair_node<M: Mix>(alloc: Global, size: u64, hash: u64, first: EdgeMap, second: EdgeMap) -> Node
+    ensures { (low : ℕ → IdSet) (H : IdSet) → 1 ≤ set.len H → ArePairParts M.mixed low H size hash first second → IsPairNodeOf M.mixed low H first second result }
+{
+    let least = first.seek(Id(0));
+    let full = Node::Full {
+        size,
+        hash,
+        first,
+        second,
+        third: EdgeMap::new(alloc),
+    };
+    match least {
+        Some((key, Edge::Key(rest))) if size == 1 => Node::Single(Pair(key, rest)),
+        Some((_, Edge::Key(_))) => full,
+        Some((_, Edge::Node(_))) => full,
+        None => full,
+    }
+}
+
+/// The edge for the pairs that the old one stands for, changed by those behind the first key of the run. The new edge
+/// is in hand.
+pub fn change_pairs<M: Mix, W: Ledger, V: Ledger>(
+    alloc: Global,
+    context: &mut Context<M>,
+    change: Change,
+    old: Option<Edge>,
+    run: &[Trip],
+    interns: &mut Steps<W>,
+    retains: &mut Steps<V>,
+) -> Result<Option<Edge>, Memory>
+    requires fits { FitsSome context.old 2 old }
+    requires some { 1 ≤ length run.now }
+    requires order { AreInOrder trip_rest run.now }
+    requires change { IsChange (grows change) (set_at context.old 2 old) (set_of_entries trip_rest run.now) }
+    requires room { LeavesRoom context.old (2 ^ 34 * length run.now) }
+    requires size { set.len (after (grows change) (set_at context.old 2 old) (set_of_entries trip_rest run.now)) < 2 ^ 64 }
+    ensures stands { IfOk result (StandsAt context.new 2 (after (grows change) (set_at context.old 2 old) (set_of_entries trip_rest run.now))) }
+    ensures moved { IfOk result (λ e. AreMoved M.mixed context.old context.new (at_depth 2 (option_leads e)) nothing) }
+    ensures counts { OnOk result (CountsRiseBy context.old context.new (λ _ _. 2 ^ 34 * length run.now)) }
+    ensures stay { OnOk result (RowsStay context.old context.new) }
+    ensures kept { OnErr result (context.new ≡ context.old) }
+    ensures ticks { interns.new ≤ interns.old + 3 * length run.now }
+{
+    // This call tells the proof that the tables are kept.
+    let _tables = context.tables();
+    let (size, hash) = pair_figures(context, old);
+    let size = changed_size(change, size, run.len() as u64);
+    let hash = toggled_pairs::<M>(hash, run);
+    let first = change_pair_position(alloc, context, change, old, run, 0, interns, retains)?;
+    let second = match change_pair_position(alloc, context, change, old, run, 1, interns, retains) {
+        Ok(second) => second,
+        Err(memory) => {
+            context.release_map::<L2>(&first);
+            return Err(memory);
+        }
+    };
+    if size == 0 {
+        return Ok(None);
+    }
+    let node = pair_node::<M>(alloc, size, hash, first, second);
+    let held = context.intern::<L2, W>(node, interns)?;
+    Ok(Some(held.into_edge()))
+}

@@ -1,0 +1,97 @@
+//! A map of a node of depth three changed.
+ghost use Rattle.std.specs.Prelude.{◌≡◌, ℕ, ◌+◌, ◌*◌, ◌≤◌, ◌^◌, [], IfOk, OnOk, OnErr, length};
+ghost use Rattle.edge_map.specs.Entries.{KeysRise};
+ghost use Rattle.edge_map.specs.Edges.{changed};
+ghost use Rattle.trie_depth.specs.Tuples.{trip_tuple};
+ghost use Rattle.trie_node.specs.Sets.{edges_in};
+ghost use Rattle.trie_context.specs.Holds.{at_depth, nothing, CountsRiseBy, RowsStay};
+ghost use Rattle.trie_context.specs.Kept.{AreMoved};
+ghost use Rattle.trie_update.specs.Batches.{set_of_entries, AreInOrder};
+ghost use Rattle.trie_update.specs.Rooms.{LeavesRoom, AllFit, changes_lead, AreChanges, AreChanged, AreSmallAfter};
+
+use crate::change::Change;
+use crate::hand::{Changes, release_changes};
+use crate::levels::{changed_map, each_run};
+use crate::pairs::change_pairs;
+use crate::runs::triple_run;
+use edge_map::EdgeMap;
+use std::alloc::Global;
+use std::sync::ledger::Ledger;
+use trie_context::Context;
+use trie_depth::{L3, Memory, Mix, Steps, Trip};
+
+/// What each run of triples makes of the edge under its first key. Whatever the answer, the edges of the changes are in hand.
+fn triple_changes<M: Mix, W: Ledger, V: Ledger>(
+    alloc: Global,
+    context: &mut Context<M>,
+    change: Change,
+    old: &EdgeMap,
+    triples: &[Trip],
+    changes: &mut Changes,
+    interns: &mut Steps<W>,
+    retains: &mut Steps<V>,
+) -> Result<(), Memory>
+    requires none { changes.old.items ≡ [] }
+    requires fits { AllFit context.old 2 old.now }
+    requires order { AreInOrder trip_tuple triples.now }
+    requires change { AreChanges change context.old 2 old.now (set_of_entries trip_tuple triples.now) }
+    requires size { AreSmallAfter change context.old 2 old.now (set_of_entries trip_tuple triples.now) }
+    requires room { LeavesRoom context.old (2 ^ 34 * length triples.now) }
+    ensures rise { KeysRise changes.new.items }
+    ensures changed { OnOk result (AreChanged change context.old context.new 2 old.now (set_of_entries trip_tuple triples.now) (changed old.now changes.new.items)) }
+    ensures moved { AreMoved M.mixed context.old context.new (at_depth 2 (changes_lead changes.new.items)) nothing }
+    ensures counts { CountsRiseBy context.old context.new (λ _ _. 2 ^ 34 * length triples.now) }
+    ensures stay { RowsStay context.old context.new }
+    ensures ticks { interns.new ≤ interns.old + 3 * length triples.now }
+{
+    // This call tells the proof that the tables are kept.
+    context.tables();
+    each_run!(triples, changes, triple_run, (key, run) => {
+        change_pairs::<M, W, V>(alloc, context, change, old.get(key), run, interns, retains)
+    })
+}
+
+/// The map of a node of depth three with the edge under the first key of each triple changed by what is behind it. The new
+/// map's edges are in hand.
+pub fn change_triple_map<M: Mix, W: Ledger, V: Ledger>(
+    alloc: Global,
+    context: &mut Context<M>,
+    change: Change,
+    old: &EdgeMap,
+    triples: &[Trip],
+    interns: &mut Steps<W>,
+    retains: &mut Steps<V>,
+) -> Result<EdgeMap, Memory>
+    requires fits { AllFit context.old 2 old.now }
+    requires order { AreInOrder trip_tuple triples.now }
+    requires change { AreChanges change context.old 2 old.now (set_of_entries trip_tuple triples.now) }
+    requires size { AreSmallAfter change context.old 2 old.now (set_of_entries trip_tuple triples.now) }
+    requires room { LeavesRoom context.old (2 ^ 34 * length triples.now + 2 ^ 32) }
+    ensures changed { IfOk result (AreChanged change context.old context.new 2 old.now (set_of_entries trip_tuple triples.now)) }
+    ensures moved { IfOk result (λ m. AreMoved M.mixed context.old context.new (at_depth 2 (edges_in m)) nothing) }
+    ensures counts { OnOk result (CountsRiseBy context.old context.new (λ _ _. 2 ^ 34 * length triples.now + 2 ^ 32)) }
+    ensures stay { OnOk result (RowsStay context.old context.new) }
+    ensures kept { OnErr result (context.new ≡ context.old) }
+    ensures ticks { interns.new ≤ interns.old + 3 * length triples.now }
+{
+    // This call tells the proof that the tables are kept.
+    context.tables();
+    let mut changes = Vec::new(alloc);
+    changed_map!(
+        context,
+        L3,
+        old,
+        changes,
+        triple_changes(
+            alloc,
+            context,
+            change,
+            old,
+            triples,
+            &mut changes,
+            interns,
+            retains
+        ),
+        retains
+    )
+}

@@ -1,0 +1,188 @@
+//! A graph grown and shrunk by a batch.
+ghost use Rattle.std.specs.Prelude.{◌≡◌, ℕ, ◌+◌, ◌*◌, ◌<◌, ◌≤◌, ◌^◌, true, false, IfOk, OnOk, OnErr, length};
+ghost use Rattle.std.specs.Ordering.{nat_cmp};
+ghost use Rattle.std.specs.FinSet as set;
+ghost use Rattle.hypertrie_model.specs.Changes.{after, IsChange};
+ghost use Rattle.hypertrie_model.specs.Sets.{single};
+ghost use Rattle.trie_depth.specs.Tuples.{trip_tuple};
+ghost use Rattle.trie_context.specs.Holds.{nothing, CountsRiseBy, RowsStay};
+ghost use Rattle.trie_context.specs.Kept.{AreMoved};
+ghost use Rattle.trie_context.specs.RootShape.{OnlyRootHeld};
+ghost use Rattle.trie_context.specs.Roots.{root_set, root_hold, IsHeld};
+ghost use Rattle.trie_context.specs.Shape.{HasShape};
+ghost use Rattle.trie_update.specs.Batches.{set_of_entries, IsOnce};
+ghost use Rattle.trie_update.specs.Changes.{grows};
+ghost use Rattle.trie_update.specs.Rooms.{LeavesRoom, CountsUpTo, HeldStay};
+
+use crate::change::Change;
+use crate::triples::change_root;
+use std::alloc::Global;
+use std::mem;
+use std::sync::ledger::Ledger;
+use trie_context::{Context, Root};
+use trie_depth::{Memory, Mix, Steps, Trip};
+
+/// The root of a graph of one triple, changed by the batch. Its hold is in hand.
+fn change_one<M: Mix, W: Ledger, V: Ledger>(
+    alloc: Global,
+    context: &mut Context<M>,
+    change: Change,
+    triple: Trip,
+    batch: &[Trip],
+    interns: &mut Steps<W>,
+    retains: &mut Steps<V>,
+) -> Result<Root, Memory>
+    requires once { IsOnce trip_tuple batch.now }
+    requires change { IsChange (grows change) (single nat_cmp (trip_tuple triple)) (set_of_entries trip_tuple batch.now) }
+    requires size { length batch.now < 2 ^ 63 }
+    requires room { LeavesRoom context.old (3 * (2 ^ 34 * (length batch.now + 1) + 2 ^ 32) + 1) }
+    ensures set { IfOk result (λ root. root_set context.new root ≡ after (grows change) (single nat_cmp (trip_tuple triple)) (set_of_entries trip_tuple batch.now)) }
+    ensures moved { IfOk result (λ root. AreMoved M.mixed context.old context.new (root_hold root) nothing) }
+    ensures counts { OnOk result (CountsRiseBy context.old context.new (λ _ _. 3 * (2 ^ 34 * (length batch.now + 1) + 2 ^ 32) + 1)) }
+    ensures stay { OnOk result (RowsStay context.old context.new) }
+    ensures kept { OnErr result (context.new ≡ context.old) }
+    ensures ticks { interns.new ≤ interns.old + (9 * length batch.now + 10) }
+{
+    // This call tells the proof that the tables are kept.
+    context.tables();
+    match change {
+        Change::Shrink if batch.is_empty() => Ok(Root::One(triple)),
+        Change::Shrink => Ok(Root::Empty),
+        Change::Grow => {
+            let mut all = Vec::with_capacity(alloc, batch.len() + 1)?;
+            all.extend_from_slice(batch)?;
+            all.push(triple)?;
+            change_root(alloc, context, change, None, &all, interns, retains)
+        }
+    }
+}
+
+/// The root of a graph changed by the batch. Its hold is in hand, beside that of the old root.
+fn change_graph<M: Mix, W: Ledger, V: Ledger>(
+    alloc: Global,
+    context: &mut Context<M>,
+    change: Change,
+    root: &Root,
+    batch: &[Trip],
+    interns: &mut Steps<W>,
+    retains: &mut Steps<V>,
+) -> Result<Root, Memory>
+    requires held { IsHeld context.old root.now }
+    requires once { IsOnce trip_tuple batch.now }
+    requires change { IsChange (grows change) (root_set context.old root.now) (set_of_entries trip_tuple batch.now) }
+    requires counts { CountsUpTo context.old (2 ^ 96) }
+    requires size { set.len (root_set context.old root.now) ≤ 536870912 }
+    requires batch { length batch.now ≤ 536870912 }
+    ensures set { IfOk result (λ new. root_set context.new new ≡ after (grows change) (root_set context.old root.now) (set_of_entries trip_tuple batch.now)) }
+    ensures moved { IfOk result (λ new. AreMoved M.mixed context.old context.new (root_hold new) nothing) }
+    ensures counts { OnOk result (CountsRiseBy context.old context.new (λ _ _. 2 ^ 65)) }
+    ensures stay { OnOk result (RowsStay context.old context.new) }
+    ensures kept { OnErr result (context.new ≡ context.old) }
+    ensures ticks { interns.new ≤ interns.old + (9 * length batch.now + 10) }
+{
+    match root {
+        Root::Empty => change_root(alloc, context, change, None, batch, interns, retains),
+        Root::One(triple) => change_one(alloc, context, change, *triple, batch, interns, retains),
+        Root::Many(held) => {
+            let row = held.row();
+            change_root(alloc, context, change, Some(row), batch, interns, retains)
+        }
+    }
+}
+
+/// The graph changed by the batch.
+fn update<M: Mix, W: Ledger, V: Ledger>(
+    alloc: Global,
+    context: &mut Context<M>,
+    change: Change,
+    root: &mut Root,
+    batch: &[Trip],
+    interns: &mut Steps<W>,
+    retains: &mut Steps<V>,
+) -> Result<(), Memory>
+    requires held { IsHeld context.old root.old }
+    requires once { IsOnce trip_tuple batch.now }
+    requires change { IsChange (grows change) (root_set context.old root.old) (set_of_entries trip_tuple batch.now) }
+    requires counts { CountsUpTo context.old (2 ^ 96) }
+    requires size { set.len (root_set context.old root.old) ≤ 536870912 }
+    requires batch { length batch.now ≤ 536870912 }
+    ensures set { OnOk result (root_set context.new root.new ≡ after (grows change) (root_set context.old root.old) (set_of_entries trip_tuple batch.now)) }
+    ensures held { IsHeld context.new root.new }
+    ensures moved { OnOk result (AreMoved M.mixed context.old context.new (root_hold root.new) (root_hold root.old)) }
+    ensures counts { OnOk result (CountsRiseBy context.old context.new (λ _ _. 2 ^ 65)) }
+    ensures stay { OnOk result (HeldStay context.old context.new (root_hold root.old)) }
+    ensures tables { OnErr result (context.new ≡ context.old) }
+    ensures root { OnErr result (root.new ≡ root.old) }
+    ensures ticks { interns.new ≤ interns.old + (9 * length batch.now + 10) }
+{
+    // This call tells the proof that the tables are kept.
+    context.tables();
+    let new = change_graph(alloc, context, change, root, batch, interns, retains)?;
+    match mem::replace(root, new) {
+        Root::Many(held) => context.release(held),
+        Root::Empty | Root::One(_) => {}
+    }
+    Ok(())
+}
+
+/// Puts a batch of new triples into a graph. For want of memory nothing is changed.
+pub fn grow<M: Mix, W: Ledger, V: Ledger>(
+    alloc: Global,
+    context: &mut Context<M>,
+    root: &mut Root,
+    batch: &[Trip],
+    interns: &mut Steps<W>,
+    retains: &mut Steps<V>,
+) -> Result<(), Memory>
+    requires held { IsHeld context.old root.old }
+    requires once { IsOnce trip_tuple batch.now }
+    requires new { IsChange true (root_set context.old root.old) (set_of_entries trip_tuple batch.now) }
+    requires counts { CountsUpTo context.old (2 ^ 96) }
+    requires size { set.len (set.union (root_set context.old root.old) (set_of_entries trip_tuple batch.now)) ≤ 536870912 }
+    ensures set { OnOk result (root_set context.new root.new ≡ set.union (root_set context.old root.old) (set_of_entries trip_tuple batch.now)) }
+    ensures held { IsHeld context.new root.new }
+    ensures moved { OnOk result (AreMoved M.mixed context.old context.new (root_hold root.new) (root_hold root.old)) }
+    ensures shape { OnOk result (OnlyRootHeld context.old root.old → HasShape context.new (root_set context.new root.new)) }
+    ensures counts { OnOk result (CountsRiseBy context.old context.new (λ _ _. 2 ^ 65)) }
+    ensures stay { OnOk result (HeldStay context.old context.new (root_hold root.old)) }
+    ensures tables { OnErr result (context.new ≡ context.old) }
+    ensures root { OnErr result (root.new ≡ root.old) }
+    ensures ticks { interns.new ≤ interns.old + (9 * length batch.now + 10) }
+{
+    update(alloc, context, Change::Grow, root, batch, interns, retains)
+}
+
+/// Takes a batch of triples that are there out of a graph. For want of memory nothing is changed.
+pub fn shrink<M: Mix, W: Ledger, V: Ledger>(
+    alloc: Global,
+    context: &mut Context<M>,
+    root: &mut Root,
+    batch: &[Trip],
+    interns: &mut Steps<W>,
+    retains: &mut Steps<V>,
+) -> Result<(), Memory>
+    requires held { IsHeld context.old root.old }
+    requires once { IsOnce trip_tuple batch.now }
+    requires there { IsChange false (root_set context.old root.old) (set_of_entries trip_tuple batch.now) }
+    requires counts { CountsUpTo context.old (2 ^ 96) }
+    requires size { set.len (set.union (root_set context.old root.old) (set_of_entries trip_tuple batch.now)) ≤ 536870912 }
+    ensures set { OnOk result (root_set context.new root.new ≡ set.difference (root_set context.old root.old) (set_of_entries trip_tuple batch.now)) }
+    ensures held { IsHeld context.new root.new }
+    ensures moved { OnOk result (AreMoved M.mixed context.old context.new (root_hold root.new) (root_hold root.old)) }
+    ensures shape { OnOk result (OnlyRootHeld context.old root.old → HasShape context.new (root_set context.new root.new)) }
+    ensures counts { OnOk result (CountsRiseBy context.old context.new (λ _ _. 2 ^ 65)) }
+    ensures stay { OnOk result (HeldStay context.old context.new (root_hold root.old)) }
+    ensures tables { OnErr result (context.new ≡ context.old) }
+    ensures root { OnErr result (root.new ≡ root.old) }
+    ensures ticks { interns.new ≤ interns.old + (9 * length batch.now + 10) }
+{
+    update(
+        alloc,
+        context,
+        Change::Shrink,
+        root,
+        batch,
+        interns,
+        retains,
+    )
+}

@@ -3,7 +3,7 @@ use Rattle.std.specs.Prelude.{◌≡◌, ℕ, zero, suc, ◌<◌, ◌≤◌, ◌
 use Rattle.std.proofs.Common.{sym, ◌∙◌, ap, arith}
 use Rattle.std.proofs.lemmas.Bool.{false_from_ne_true}
 use Rattle.std.proofs.lemmas.Cmp.{lists_total}
-use Rattle.std.proofs.lemmas.List.Edits.{length-remove}
+use Rattle.std.proofs.lemmas.List.Edits.{length-insert, length-remove}
 use Rattle.std.specs.List.{list_any, filter, filter_map, cons_option, insert, remove}
 use Rattle.std.specs.Ordering.{eq_by_cmp}
 use Rattle.std.specs.declared.cmp.Ordering.{Ordering}
@@ -12,7 +12,7 @@ use Rattle.std.specs.Cmp.Lexicographic.{slice_cmp}
 use Rattle.std.specs.FinSet.{IsAntisymmetric, slice_cmp-IsAntisymmetric}
 use Rattle.std.specs.FinSet as set
 use native.Mathlib.Decide.{dec_le}
-use Rattle.hypertrie_model.specs.Sets.{TupleSet, has, empty}
+use Rattle.hypertrie_model.specs.Sets.{TupleSet, has, empty, HasDepth}
 use Rattle.hypertrie_model.specs.Slices.{at, is_at, is_at_mask, without_mask, keys, slice, slice_at_mask}
 use Rattle.hypertrie_model.specs.SetLaws.{same_sets, or_cases, or_right, and_both, same_test, tied-itself, tied-is}
 
@@ -65,12 +65,12 @@ module _ {A : Type 0} {R : A → A → Ordering} (o : IsTotalOrder R) (exact : I
   abbrev same_tuple : List A → List A → Bool
   same_tuple u t = eq_by_cmp (slice_cmp R) u t
 
-  insert-remove_at : (t : List A) (i : ℕ) (k : A) → is_at R i k t ≡ true → insert (remove t i) i k ≡ t
+  pub insert-remove_at : (t : List A) (i : ℕ) (k : A) → is_at R i k t ≡ true → insert (remove t i) i k ≡ t
   insert-remove_at [] i k e = absurd (let t : ⊥ = cc in t)
   insert-remove_at (x ∷ t) zero k e = ap (λ y. y ∷ t) (tied-is exact k x e)
   insert-remove_at (x ∷ t) (suc i) k e = ap (λ xs. x ∷ xs) (insert-remove_at t i k e)
 
-  at-insert_at : (u : List A) (i : ℕ) (k : A) → i ≤ length u → is_at R i k (insert u i k) ≡ true
+  pub at-insert_at : (u : List A) (i : ℕ) (k : A) → i ≤ length u → is_at R i k (insert u i k) ≡ true
   at-insert_at u zero k h = tied-itself o k
   at-insert_at [] (suc i) k h = absurd (omega arith)
   at-insert_at (x ∷ u) (suc i) k h = at-insert_at u i k (omega arith)
@@ -110,6 +110,12 @@ module _ {A : Type 0} {R : A → A → Ordering} (o : IsTotalOrder R) (exact : I
 
   pub by_length : (P : Type 0) (i : ℕ) (u : List A) → (i ≤ length u → P) → (length u < i → P) → P
   by_length P i u within short = elim (dec_le i (length u)) as (λ _. P) [ yes le ↦ within le | no gt ↦ short (omega arith) ]
+
+  -- every slice of a set of tuples has tuples of one place less
+  pub slice-depth : (H : TupleSet R) (n i : ℕ) (k : A) → HasDepth (suc n) H → HasDepth n (slice R H i k)
+  slice-depth H n i k deep u e = by_length _ i u
+      (λ le. let long = length-insert u i k le in let n_places = deep (insert u i k) (sym (has-slice H i k u le) ∙ e) in omega arith)
+      (λ gt. let t : false ≡ true = sym (has-slice_short H i k u gt) ∙ e in cc)
 
   -- the slice of a union is the union of the slices
   pub slice-union : (H K : TupleSet R) (i : ℕ) (k : A) → slice R (set.union H K) i k ≡ set.union (slice R H i k) (slice R K i k)

@@ -14,6 +14,8 @@ mod levels;
 mod pair_map;
 mod pairs;
 mod runs;
+#[cfg(test)]
+mod tests;
 mod triple_map;
 mod triples;
 mod update;

@@ -7,8 +7,9 @@ use Rattle.trie_context.specs.Holds.{at_depth, nothing}
 use Rattle.trie_context.specs.MoveLaws.{at_sum, rows_stay_on, moved_as}
 use Rattle.trie_update.specs.Batches.{set_of_entries}
 use Rattle.trie_update.specs.Changes.{grows}
+use Rattle.trie_update.specs.HandLaws.{slices_stay}
 use Rattle.trie_update.specs.Rooms.{AreSlicesAt, row_set_at}
-use Rattle.trie_update.proofs.TripleLemmas.{row_set_stays, row_stays_there, slices_stay, given_back, hand_held, left_held, both_moved, both_given}
+use Rattle.trie_update.proofs.PositionLemmas.{row_set_stays, row_stays_there, all_given_back, still_held, left_held, both_moved, both_given}
 use Rattle.trie_update.proofs.triples.change_positions.Goals as goal
 
 pub change_triple_position-requires-2-clause-there :
@@ -24,10 +25,10 @@ pub change_triple_position-requires-2-clause-size :
 change_triple_position-requires-2-clause-size g c = subst (λ S. set.len (after (grows c.args.change) S (set_of_entries trip_tuple c.args.batch.now)) < 2 ^ 64) (sym (row_set_stays g.M.Mix.mixed c.args.context.now c.change_triple_position.new.context c.tables.ensures.kept c.in_ok-first.ensures.stay c.args.old c.requires.there)) c.requires.size
 
 pub release_map-requires : goal.release_map-requires
-release_map-requires g c = record { held = hand_held (edges_in c.in_ok-first.first) c.in_ok-first.ensures.moved c.in-Err.ensures.kept }
+release_map-requires g c = record { held = still_held (edges_in c.in_ok-first.first) c.in_ok-first.ensures.moved c.in-Err.ensures.kept }
 
 pub returns-in-Err-clause-kept : goal.returns-in-Err-clause-kept
-returns-in-Err-clause-kept g c = given_back c.tables.ensures.kept c.in_ok-first.ensures.moved c.in_ok-first.ensures.stay c.in-Err.ensures.kept c.release_map.ensures.moved c.release_map.ensures.came (λ d r. refl)
+returns-in-Err-clause-kept g c = all_given_back c.tables.ensures.kept c.in_ok-first.ensures.moved c.in_ok-first.ensures.stay c.in-Err.ensures.kept c.release_map.ensures.moved c.release_map.ensures.came (λ d r. refl)
 
 pub change_triple_position-requires-3-clause-there :
     goal.change_triple_position-requires-3-clause-there
@@ -47,7 +48,7 @@ release_map-requires-in-Err-change_triple_position g c =
     let e : ℕ → ℕ → ℕ = at_depth 2 (edges_in c.in_ok-first.first) in
     let f : ℕ → ℕ → ℕ = at_depth 2 (edges_in c.in-Ok.second) in
     let both = moved_as (both_moved e f c.in_ok-first.ensures.moved c.in-Ok.ensures.moved) (at_depth 2 (λ r. edges_in c.in_ok-first.first r + edges_in c.in-Ok.second r)) nothing (λ d r. omega (arith, at_sum 2 (λ r. edges_in c.in_ok-first.first r + edges_in c.in-Ok.second r) (edges_in c.in_ok-first.first) (edges_in c.in-Ok.second) (λ r. refl) d r)) in
-    record { held = λ r. omega (arith, hand_held (λ r. edges_in c.in_ok-first.first r + edges_in c.in-Ok.second r) both c.in-Err-change_triple_position.ensures.kept r) }
+    record { held = λ r. omega (arith, still_held (λ r. edges_in c.in_ok-first.first r + edges_in c.in-Ok.second r) both c.in-Err-change_triple_position.ensures.kept r) }
 
 pub release_map-requires-in-Err-change_triple_position-2 :
     goal.release_map-requires-in-Err-change_triple_position-2
@@ -57,7 +58,7 @@ release_map-requires-in-Err-change_triple_position-2 g c =
     let both = moved_as (both_moved e f c.in_ok-first.ensures.moved c.in-Ok.ensures.moved) (at_depth 2 (λ r. edges_in c.in_ok-first.first r + edges_in c.in-Ok.second r)) nothing (λ d r. omega (arith, at_sum 2 (λ r. edges_in c.in_ok-first.first r + edges_in c.in-Ok.second r) (edges_in c.in_ok-first.first) (edges_in c.in-Ok.second) (λ r. refl) d r)) in
     record {
       held = left_held (edges_in c.in_ok-first.first) (edges_in c.in-Ok.second) c.release_map-in-Err-change_triple_position.ensures.moved
-          (hand_held (λ r. edges_in c.in_ok-first.first r + edges_in c.in-Ok.second r) both c.in-Err-change_triple_position.ensures.kept);
+          (still_held (λ r. edges_in c.in_ok-first.first r + edges_in c.in-Ok.second r) both c.in-Err-change_triple_position.ensures.kept);
     }
 
 pub returns-in-Ok-change_triple_position-clause-first :
@@ -87,7 +88,7 @@ pub returns-in-Err-change_triple_position-clause-kept :
 returns-in-Err-change_triple_position-clause-kept g c =
     let e : ℕ → ℕ → ℕ = at_depth 2 (edges_in c.in_ok-first.first) in
     let f : ℕ → ℕ → ℕ = at_depth 2 (edges_in c.in-Ok.second) in
-    given_back c.tables.ensures.kept (both_moved e f c.in_ok-first.ensures.moved c.in-Ok.ensures.moved)
+    all_given_back c.tables.ensures.kept (both_moved e f c.in_ok-first.ensures.moved c.in-Ok.ensures.moved)
     (rows_stay_on c.args.context.now c.change_triple_position.new.context c.change_triple_position-2.new.context c.in_ok-first.ensures.stay c.in-Ok.ensures.stay)
     c.in-Err-change_triple_position.ensures.kept
     (both_given e f c.release_map-in-Err-change_triple_position.ensures.moved c.release_map-in-Err-change_triple_position-2.ensures.moved)

@@ -1,14 +1,18 @@
-use Rattle.std.proofs.Common.{◌∙◌, ◌+◌, ℕ, sym, subst, refl, length, arith}
+use Rattle.std.proofs.Common.{◌∙◌, ◌+◌, ℕ, sym, refl, length, arith}
 use Rattle.trie_node.specs.Sets.{edges_in}
 use Rattle.trie_context.specs.Holds.{nothing}
 use Rattle.trie_context.specs.MoveLaws.{moved_as}
-use Rattle.trie_update.specs.Changes.{HasSize}
+use Rattle.trie_depth.specs.Tuples.{trip_tuple}
+use Rattle.trie_update.specs.Batches.{set_of_entries}
 use Rattle.trie_update.specs.Rooms.{row_set_at}
-use Rattle.trie_update.proofs.TripleLemmas.{has_size, are_parts, none_is, no_edge, one_whole, whole_is, full_form, root_is, hand_held, given_back, stay_again, err_holds}
+use Rattle.trie_update.specs.FigureLaws.{has_size}
+use Rattle.trie_update.proofs.PositionLemmas.{still_held, all_given_back, stay_again, err_holds}
+use Rattle.trie_update.proofs.PartLemmas.{are_parts, none_is, no_edge, one_whole, whole_is, full_form, root_is}
 use Rattle.trie_update.proofs.triples.change_root.Goals as goal
 
 pub changed_size-size-requires : goal.changed_size-size-requires
-changed_size-size-requires g c = subst (λ n. HasSize c.args.change n (length c.args.batch.now)) (sym c.triple_figures-size.ensures.size) (has_size c.args.change (row_set_at c.args.context.now c.args.old) c.args.batch.now c.requires.once c.requires.change c.requires.size)
+changed_size-size-requires g c =
+    has_size c.args.change (row_set_at c.args.context.now c.args.old) (set_of_entries trip_tuple c.args.batch.now) c.requires.change c.requires.size c.triple_figures-size.result.0 (length c.args.batch.now) c.triple_figures-size.ensures.size c.requires.once
 
 pub returns-then-size-eq0-clause-set : goal.returns-then-size-eq0-clause-set
 returns-then-size-eq0-clause-set g c =
@@ -31,7 +35,7 @@ lone_triple-triple-requires-clause-lone g c =
 pub release_positions-requires : goal.release_positions-requires
 release_positions-requires g c =
     let hand : ℕ → ℕ = λ r. edges_in c.in_ok-first.first r + (edges_in c.in_ok-first.second r + edges_in c.in_ok-first.third r) in
-    hand_held hand c.in_ok-first.ensures.moved refl
+    still_held hand c.in_ok-first.ensures.moved refl
 
 pub returns-then-size-eq1-clause-set : goal.returns-then-size-eq1-clause-set
 returns-then-size-eq1-clause-set g c =
@@ -53,11 +57,11 @@ intern-requires-clause-form g c =
 pub intern-requires-clause-held : goal.intern-requires-clause-held
 intern-requires-clause-held g c =
     let hand : ℕ → ℕ = λ r. edges_in c.in_ok-first.first r + (edges_in c.in_ok-first.second r + edges_in c.in_ok-first.third r) in
-    hand_held hand c.in_ok-first.ensures.moved refl
+    still_held hand c.in_ok-first.ensures.moved refl
 
 pub returns-in_err-intern-clause-kept : goal.returns-in_err-intern-clause-kept
 returns-in_err-intern-clause-kept g c = err_holds c.from_residual-in_err-intern.result
-    (given_back c.tables.ensures.kept c.in_ok-first.ensures.moved c.in_ok-first.ensures.stay refl c.in_err-intern.ensures.given c.in_err-intern.ensures.came (λ d r. refl))
+    (all_given_back c.tables.ensures.kept c.in_ok-first.ensures.moved c.in_ok-first.ensures.stay refl c.in_err-intern.ensures.given c.in_err-intern.ensures.came (λ d r. refl))
 
 pub returns-clause-set : goal.returns-clause-set
 returns-clause-set g c =

@@ -8,7 +8,7 @@ use Rattle.trie_update.specs.Batches.{set_of_entries}
 use Rattle.trie_update.specs.Changes.{grows}
 use Rattle.trie_update.specs.Rooms.{AreChanged, AreSlicesAt, row_set_at}
 use Rattle.trie_update.proofs.PairLemmas.{changes_of, slices_after}
-use Rattle.trie_update.proofs.TripleLemmas.{small_after}
+use Rattle.trie_update.proofs.PositionLemmas.{small_after}
 use Rattle.trie_update.proofs.triples.change_triple_position.Goals as goal
 
 pub change_triple_map-requires-clause-change : goal.change_triple_map-requires-clause-change

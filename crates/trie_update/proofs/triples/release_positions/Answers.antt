@@ -1,6 +1,6 @@
 use Rattle.std.proofs.Common.{◌+◌, arith}
 use Rattle.trie_node.specs.Sets.{edges_in}
-use Rattle.trie_update.proofs.TripleLemmas.{left_held}
+use Rattle.trie_update.proofs.PositionLemmas.{left_held}
 use Rattle.trie_update.proofs.triples.release_positions.Goals as goal
 
 pub release_map-requires-2 : goal.release_map-requires-2

@@ -22,3 +22,4 @@ pub mod Members
 pub mod ShapeLaws
 pub mod ShapeRows
 pub mod SliceSizes
+pub mod SingleLaws

@@ -35,7 +35,7 @@ module _ {K : Type 0} {R : K → K → Ordering} where
       (λ here. ap (λ b. b || list_any p ks) (ap p (sym (tied-is exact k x here)) ∙ q))
       (λ rest. or_right (p x) (list_any p ks) (passes_any exact p ks k rest q))
 
-any-map_filter : {X Y : Type 0} (f : X → Y) (p : X → Bool) (q : Y → Bool) (xs : List X) → list_any q (map f (filter p xs)) ≡ list_any (λ x. p x && q (f x)) xs
+pub any-map_filter : {X Y : Type 0} (f : X → Y) (p : X → Bool) (q : Y → Bool) (xs : List X) → list_any q (map f (filter p xs)) ≡ list_any (λ x. p x && q (f x)) xs
 any-map_filter f p q [] = refl
 any-map_filter f p q (x ∷ xs) =
     elim (p x) as (λ b. list_any q (map f (cond b (x ∷ filter p xs) (filter p xs))) ≡ ((b && q (f x)) || list_any (λ y. p y && q (f y)) xs)) [

@@ -1,0 +1,4 @@
+pub mod Common
+pub mod Lists
+pub mod ListLaws
+pub mod Least

@@ -1,3 +1,4 @@
 pub mod Cases
 pub mod SlicesInOrder
 pub mod CaseLaws
+pub mod TakenLaws

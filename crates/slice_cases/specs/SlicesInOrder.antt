@@ -48,7 +48,8 @@ range_more : (a d : ℕ) → range_with_len a (suc d) ≡ range_with_len a d ++ 
 range_more a zero = ap (λ n. n ∷ []) (let e : a ≡ a + 0 = omega arith in e)
 range_more a (suc d) = ap (λ l. a ∷ l) (range_more (a + 1) d ∙ ap (λ n. range_with_len (a + 1) d ++ n ∷ []) (let e : a + 1 + d ≡ a + suc d = omega arith in e))
 
-taken_more : (d m : ℕ) → taken_of (suc d) m ≡ cond (has_position m d) (d ∷ taken_of d m) (taken_of d m)
+-- the positions below one more
+pub taken_more : (d m : ℕ) → taken_of (suc d) m ≡ cond (has_position m d) (d ∷ taken_of d m) (taken_of d m)
 taken_more d m =
     ap (λ l. reverse (filter (has_position m) l)) (range_more 0 d ∙ ap (λ n. range_with_len 0 d ++ n ∷ []) (let e : 0 + d ≡ d = omega arith in e))
     ∙ ap reverse (filter-append (has_position m) (range_with_len 0 d) (d ∷ []))

@@ -37,6 +37,9 @@ few_at d k e r = same_or_not e d _
 abbrev pub AreFew : Tables → ℕ → Type 0
 AreFew t n = (d r : ℕ) → count_of (row_of t d r) ≤ n
 
+pub no_rows_few : AreFew no_tables 0
+no_rows_few d r = let z = no_count d r in omega arith
+
 pub few_more : (t u : Tables) (d k n : ℕ) → AreFew t n → CountsRiseBy t u (at_depth d (one_at k)) → AreFew u (n + 1)
 few_more t u d k n few rise e r = omega (arith, few e r, rise e r, few_at d k e r)
 

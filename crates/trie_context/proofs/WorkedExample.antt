@@ -32,6 +32,16 @@ use Rattle.trie_node.specs.Forms.{IsPairEdge, StandsFor, AreSlices, IsKeyNode, I
 abbrev pub zero_mix : ℕ → ℕ → ℕ → ℕ → ℕ
 zero_mix d a b c = 0
 
+-- the two keys
+abbrev pub two : Id
+two = record { 0 = 2 }
+
+abbrev pub three : Id
+three = record { 0 = 3 }
+
+pub rise : 2 < 3
+rise = omega arith
+
 module _ (low high : Id) where
   abbrev pub key_map : Edges
   key_map = map.insert (map.insert map.empty high.0 (Key high)) low.0 (Key low)

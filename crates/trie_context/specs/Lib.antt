@@ -13,3 +13,4 @@ pub mod EdgeCounts
 pub mod ShapeLaws
 pub mod RootShape
 pub mod RootLaws
+pub mod DepthLaws

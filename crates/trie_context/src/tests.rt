@@ -1,4 +1,5 @@
-//! Two sets of pairs that share one key set, with one hash for all nodes, and a map of edges retained and given up.
+//! Two sets of pairs that share one key set, with one hash for all nodes, a map of edges retained and given up, and a row
+//! found and not found.
 ghost use Rattle.std.specs.Prelude.{◌≡◌, ◌<◌, None, Some, IfOk};
 ghost use Rattle.std.specs.FinMap as map;
 ghost use Rattle.edge_map.specs.declared.edge.Edge.{Edge};
@@ -89,6 +90,32 @@ fn borrowed<W: Ledger>(alloc: Global, steps: &mut Steps<W>) -> Result<(u128, u64
     Ok((count, context.tables().one.len()))
 }
 
+/// Whether the row of the keys is found while it is held, its count with a second hold through the edge to it, and whether
+/// it is found once both are given up.
+fn found<W: Ledger>(alloc: Global, steps: &mut Steps<W>) -> Result<(bool, u128, bool), Memory> {
+    let mut context = Context::<ConstMix>::new(alloc);
+    let sought = two_keys(alloc, Id(2), Id(3))?;
+    let keys = context.intern::<L1, W>(two_keys(alloc, Id(2), Id(3))?, steps)?;
+    let row = keys.row();
+    let held = context.find::<L1>(&sought) == Some(row);
+    let edge = keys.into_edge();
+    context.retain_edge::<L2, W>(edge, steps);
+    let count = context.tables().one.count(row);
+    context.release_edge::<L2>(edge);
+    context.release_edge::<L2>(edge);
+    let given_up = context.find::<L1>(&sought).is_some();
+    Ok((held, count, given_up))
+}
+
+fn counted_found<W: Ledger>(alloc: Global, blank: Blank) -> Result<(bool, u128, bool), Memory>
+    requires name { blank.name ≡ W.name }
+    requires parts { blank.parts ≡ W.parts }
+    requires whole { 0 < W.parts }
+{
+    let mut steps = Steps::<W>::new(blank);
+    found(alloc, &mut steps)
+}
+
 fn counted_borrowed<W: Ledger>(alloc: Global, blank: Blank) -> Result<(u128, u64), Memory>
     requires name { blank.name ≡ W.name }
     requires parts { blank.parts ≡ W.parts }
@@ -118,5 +145,12 @@ fn shares_equal_key_sets(rt: HostRuntime) -> Result<(), Memory> {
 fn retains_and_releases_a_map(rt: HostRuntime) -> Result<(), Memory> {
     let (count, rows) = counted_borrowed::<Brand>(rt.alloc(), Blank::new(1))?;
     assert_eq!(rt; (count, rows), (2, 0));
+    Ok(())
+}
+
+#[test]
+fn finds_a_row_while_it_is_held(rt: HostRuntime) -> Result<(), Memory> {
+    let (held, count, given_up) = counted_found::<Brand>(rt.alloc(), Blank::new(1))?;
+    assert_eq!(rt; (held, count, given_up), (true, 2, false));
     Ok(())
 }

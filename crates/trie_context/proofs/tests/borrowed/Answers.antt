@@ -1,10 +1,9 @@
-use Rattle.std.proofs.Common.{◌≡◌, ◌≤◌, ◌<◌, ◌+◌, ℕ, arith, ap, sym, subst, ◌∙◌, Some, IsSome}
+use Rattle.std.proofs.Common.{◌≡◌, ◌≤◌, ◌+◌, ℕ, arith, ap, sym, subst, ◌∙◌, Some, IsSome}
 use Rattle.std.specs.Ordering.{nat_cmp}
 use Rattle.std.specs.Cmp.{nat_cmp_total as total}
 use Rattle.std.specs.FinMap as map
 use Rattle.std.specs.FinMap.{nat_cmp-IsAntisymmetric as exact}
 use Rattle.hypertrie_model.specs.FoldLaws.{sum_over-insert, sum_over-empty}
-use Rattle.trie_depth.specs.declared.id.Id.{Id}
 use Rattle.edge_map.specs.declared.edge.Edge.{Edge}
 use Rattle.edge_map.specs.declared.edge.Edge.TheVariants.{Node as ToRow}
 use Rattle.edge_map.specs.Edges.{Edges}
@@ -16,21 +15,9 @@ use Rattle.trie_context.specs.Holds.{holds_of, one_at, at_depth, nothing, HasRoo
 use Rattle.trie_context.specs.Kept.{AreMoved}
 use Rattle.trie_context.specs.MoveLaws.{at_here, leads_one, node_there, row_stays_there}
 use Rattle.trie_context.specs.NodeLaws.{map_counted}
-use Rattle.trie_context.proofs.WorkedExample.{zero_mix, key_node_form}
-use Rattle.trie_context.proofs.ExampleSteps.{no_count, AreFew, few_more, few_room, key_edges, put_keys}
+use Rattle.trie_context.proofs.WorkedExample.{zero_mix, two, three, rise, key_node_form}
+use Rattle.trie_context.proofs.ExampleSteps.{AreFew, no_rows_few, few_more, few_room, key_edges, put_keys}
 use Rattle.trie_context.proofs.tests.borrowed.Goals as goal
-
-abbrev two : Id
-two = record { 0 = 2 }
-
-abbrev three : Id
-three = record { 0 = 3 }
-
-rise : 2 < 3
-rise = omega arith
-
-no_rows_few : AreFew no_tables 0
-no_rows_few d r = let z = no_count d r in omega arith
 
 -- the map has one edge, to the row of the keys
 one_edge : (m new : Edges) (e : Edge) (k : ℕ) → new ≡ map.empty → m ≡ map.insert new 1 e → e ≡ ToRow k → (r : ℕ) → edges_in m r ≡ one_at k r

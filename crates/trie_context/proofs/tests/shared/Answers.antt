@@ -1,4 +1,4 @@
-use Rattle.std.proofs.Common.{◌≡◌, ◌<◌, ◌+◌, ℕ, arith, ap, sym, subst, ◌∙◌, Some, IsSome}
+use Rattle.std.proofs.Common.{◌≡◌, ◌+◌, ℕ, arith, ap, sym, subst, ◌∙◌, Some, IsSome}
 use Rattle.std.specs.FinMap as map
 use Rattle.trie_depth.specs.declared.id.Id.{Id}
 use Rattle.edge_map.specs.declared.edge.Edge.TheVariants.{Node as ToRow}
@@ -11,8 +11,8 @@ use Rattle.trie_context.specs.Rows.{no_tables, row_of, node_of, set_of}
 use Rattle.trie_context.specs.Holds.{holds_of, one_at, at_depth, nothing, HasRoom, CountsRiseBy, RowsStay}
 use Rattle.trie_context.specs.Kept.{AreMoved}
 use Rattle.trie_context.specs.MoveLaws.{node_stays, node_there, one_here}
-use Rattle.trie_context.proofs.WorkedExample.{zero_mix, key_node, key_node_form, back_map, pair_node, pair_node_form}
-use Rattle.trie_context.proofs.ExampleSteps.{no_hold, no_count, AreFew, few_more, few_room, keys_set, key_edges, pair_edges, put_keys, held_again, put_pairs, given_pairs, let_go}
+use Rattle.trie_context.proofs.WorkedExample.{zero_mix, two, three, rise, key_node, key_node_form, back_map, pair_node, pair_node_form}
+use Rattle.trie_context.proofs.ExampleSteps.{no_hold, AreFew, no_rows_few, few_more, few_room, keys_set, key_edges, pair_edges, put_keys, held_again, put_pairs, given_pairs, let_go}
 use Rattle.trie_context.proofs.tests.shared.Goals as goal
 
 abbrev zero_id : Id
@@ -20,18 +20,6 @@ zero_id = record { 0 = 0 }
 
 abbrev one_id : Id
 one_id = record { 0 = 1 }
-
-abbrev two : Id
-two = record { 0 = 2 }
-
-abbrev three : Id
-three = record { 0 = 3 }
-
-rise : 2 < 3
-rise = omega arith
-
-no_rows_few : AreFew no_tables 0
-no_rows_few d r = let z = no_count d r in omega arith
 
 -- the tables after each step of the example
 pub record Begun (t t1 : Tables) (k : ℕ) (keys : Node) : Type 0 where

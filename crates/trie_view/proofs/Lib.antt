@@ -1,0 +1,5 @@
+mod SliceLemmas
+mod KeyLemmas
+mod FixLemmas
+mod SeekLemmas
+mod RootLemmas

@@ -1,0 +1,4 @@
+pub mod Places
+pub mod EdgesAt
+pub mod PlaceLaws
+pub mod Subs

@@ -14,3 +14,4 @@ mod PositionLemmas
 mod PartLemmas
 mod HistoryLemmas
 mod ExampleBatches
+mod LoneLemmas

@@ -43,7 +43,8 @@ use Rattle.trie_update.specs.declared.change.Change.{Change}
 use Rattle.trie_update.specs.Changes.{grows}
 use Rattle.trie_update.specs.Rooms.{FitsSome, AreSlicesAt, AreChanges, AreChanged}
 use Rattle.trie_update.specs.Nodes.{ArePairParts, IsPairNodeOf}
-use Rattle.trie_update.specs.DepthLaws.{first_is, slice-empty}
+use Rattle.trie_context.specs.DepthLaws.{first_is}
+use Rattle.trie_update.specs.DepthLaws.{slice-empty}
 
 -- one pair
 

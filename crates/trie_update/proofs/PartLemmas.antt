@@ -23,7 +23,8 @@ use Rattle.trie_context.specs.MoveLaws.{at_none}
 use Rattle.trie_update.specs.declared.change.Change.{Change}
 use Rattle.trie_update.specs.Batches.{set_of_entries, IsOnce}
 use Rattle.trie_update.specs.Changes.{grows, size_after}
-use Rattle.trie_update.specs.DepthLaws.{empty_deep, set_deep, after_deep, trip_tuple_deep, first_is}
+use Rattle.trie_context.specs.DepthLaws.{empty_deep, set_deep, first_is}
+use Rattle.trie_update.specs.DepthLaws.{after_deep, trip_tuple_deep}
 use Rattle.trie_update.specs.FigureLaws.{size_is, hash_is}
 use Rattle.trie_update.specs.HandLaws.{no_edges, no_leads, slices_stay}
 use Rattle.trie_update.specs.Nodes.{AreTripleParts}

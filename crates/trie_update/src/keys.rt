@@ -3,9 +3,10 @@ ghost use Rattle.std.specs.Prelude.{◌≡◌, ℕ, ◌+◌, ◌≤◌, IsNone, 
 ghost use Rattle.std.specs.Prelude.{map as each};
 ghost use Rattle.std.specs.FinMap as map;
 ghost use Rattle.hypertrie_model.specs.Changes.{after, IsChange};
-ghost use Rattle.trie_node.specs.Sets.{set_hash};
+ghost use Rattle.trie_node.specs.Sets.{leads, set_hash};
 ghost use Rattle.trie_context.specs.Holds.{at_depth, nothing, CountsRiseBy, RowsStay};
 ghost use Rattle.trie_context.specs.Kept.{AreMoved};
+ghost use Rattle.trie_context.specs.declared.tables.Tables.{Tables};
 ghost use Rattle.trie_update.specs.Batches.{set_of_entries, AreInOrder, pair_rest};
 ghost use Rattle.trie_update.specs.Changes.{grows, key_change};
 ghost use Rattle.trie_context.specs.FitEdges.{set_at, StandsAt, option_leads};
@@ -101,9 +102,19 @@ fn first_edge(keys: &EdgeMap) -> Option<Edge>
     Some(edge)
 }
 
-/// The edge for the keys that the old one stands for, changed by those behind the first of the run. The new edge
-/// is in hand.
-pub fn change_keys<M: Mix, W: Ledger>(
+/// The edge of one key that is put in where there was none: the key itself, and nothing is stored for it.
+fn lone_key(change: Change, old: Option<Edge>, run: &[Pair]) -> Option<Edge>
+    ensures stands { IfSome result (λ e. (t : Tables) → StandsAt t 1 (after (grows change) (set_at t 1 old) (set_of_entries pair_rest run.now)) (Some e)) }
+    ensures nowhere { IfSome result (λ e. (r : ℕ) → leads e r ≡ 0) }
+{
+    match (change, old) {
+        (Change::Grow, None) if run.len() == 1 => Some(Edge::Key(run[0].1)),
+        _ => None,
+    }
+}
+
+/// The same for any keys.
+fn change_many_keys<M: Mix, W: Ledger>(
     alloc: Global,
     context: &mut Context<M>,
     change: Change,
@@ -138,4 +149,33 @@ pub fn change_keys<M: Mix, W: Ledger>(
     };
     let held = context.intern::<L1, W>(node, interns)?;
     Ok(Some(held.into_edge()))
+}
+
+/// The edge for the keys that the old one stands for, changed by those behind the first of the run. The new edge
+/// is in hand.
+pub fn change_keys<M: Mix, W: Ledger>(
+    alloc: Global,
+    context: &mut Context<M>,
+    change: Change,
+    old: Option<Edge>,
+    run: &[Pair],
+    interns: &mut Steps<W>,
+) -> Result<Option<Edge>, Memory>
+    requires fits { FitsSome context.old 1 old }
+    requires order { AreInOrder pair_rest run.now }
+    requires change { IsChange (grows change) (set_at context.old 1 old) (set_of_entries pair_rest run.now) }
+    requires room { LeavesRoom context.old 1 }
+    ensures stands { IfOk result (StandsAt context.new 1 (after (grows change) (set_at context.old 1 old) (set_of_entries pair_rest run.now))) }
+    ensures moved { IfOk result (λ e. AreMoved M.mixed context.old context.new (at_depth 1 (option_leads e)) nothing) }
+    ensures counts { OnOk result (CountsRiseBy context.old context.new (λ _ _. 1)) }
+    ensures stay { OnOk result (RowsStay context.old context.new) }
+    ensures kept { OnErr result (context.new ≡ context.old) }
+    ensures ticks { interns.new ≤ interns.old + 1 }
+{
+    // This call tells the proof that the tables are kept.
+    let _tables = context.tables();
+    match lone_key(change, old, run) {
+        Some(edge) => Ok(Some(edge)),
+        None => change_many_keys(alloc, context, change, old, run, interns),
+    }
 }

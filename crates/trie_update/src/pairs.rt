@@ -1,12 +1,18 @@
 //! A set of pairs changed.
-ghost use Rattle.std.specs.Prelude.{◌≡◌, ℕ, ◌+◌, ◌*◌, ◌<◌, ◌≤◌, ◌^◌, IfOk, OnOk, OnErr, length};
+ghost use Rattle.std.specs.Prelude.{◌≡◌, ℕ, ◌+◌, ◌*◌, ◌<◌, ◌≤◌, ◌^◌, IfSome, IfOk, OnOk, OnErr, length};
+ghost use Rattle.std.specs.Ordering.{nat_cmp};
 ghost use Rattle.std.specs.FinSet as set;
 ghost use Rattle.hypertrie_model.specs.Changes.{after, IsChange};
 ghost use Rattle.hypertrie_model.specs.IdSets.{IdSet};
+ghost use Rattle.hypertrie_model.specs.Sets.{single};
+ghost use Rattle.trie_depth.specs.declared.id.Pair.{Pair};
+ghost use Rattle.trie_depth.specs.Tuples.{pair_tuple};
+ghost use Rattle.trie_node.specs.declared.node.Node.{Node};
 ghost use Rattle.trie_node.specs.Sets.{edges_in, set_hash};
 ghost use Rattle.trie_context.specs.FitEdges.{set_at, StandsAt, option_leads};
 ghost use Rattle.trie_context.specs.Holds.{at_depth, nothing, CountsRiseBy, RowsStay};
 ghost use Rattle.trie_context.specs.Kept.{AreMoved};
+ghost use Rattle.trie_context.specs.declared.tables.Tables.{Tables};
 ghost use Rattle.trie_update.specs.Batches.{set_of_entries, AreInOrder, trip_rest};
 ghost use Rattle.trie_update.specs.Changes.{grows};
 ghost use Rattle.trie_update.specs.Nodes.{ArePairParts, IsPairNodeOf};
@@ -113,9 +119,39 @@ fn pair_node<M: Mix>(alloc: Global, size: u64, hash: u64, first: EdgeMap, second
     }
 }
 
-/// The edge for the pairs that the old one stands for, changed by those behind the first key of the run. The new edge
-/// is in hand.
-pub fn change_pairs<M: Mix, W: Ledger, V: Ledger>(
+/// The node of one pair that is put in where there was none.
+fn lone_pair(change: Change, old: Option<Edge>, run: &[Trip]) -> Option<Node>
+    ensures { IfSome result (λ node. (p : Pair) × (node ≡ Node.Single p) × ((t : Tables) → single nat_cmp (pair_tuple p) ≡ after (grows change) (set_at t 2 old) (set_of_entries trip_rest run.now))) }
+{
+    match (change, old) {
+        (Change::Grow, None) if run.len() == 1 => Some(Node::Single(Pair(run[0].1, run[0].2))),
+        _ => None,
+    }
+}
+
+/// The edge to the row of one pair. It is in hand.
+fn put_pair<M: Mix, W: Ledger>(
+    context: &mut Context<M>,
+    node: Node,
+    interns: &mut Steps<W>,
+) -> Result<Option<Edge>, Memory>
+    requires lone { (p : Pair) × (node ≡ Node.Single p) }
+    requires room { LeavesRoom context.old 1 }
+    ensures stands { IfOk result (λ e. (p : Pair) → node ≡ Node.Single p → StandsAt context.new 2 (single nat_cmp (pair_tuple p)) e) }
+    ensures moved { IfOk result (λ e. AreMoved M.mixed context.old context.new (at_depth 2 (option_leads e)) nothing) }
+    ensures counts { OnOk result (CountsRiseBy context.old context.new (λ _ _. 1)) }
+    ensures stay { OnOk result (RowsStay context.old context.new) }
+    ensures kept { OnErr result (context.new ≡ context.old) }
+    ensures ticks { interns.new ≡ interns.old + 1 }
+{
+    // This call tells the proof that the tables are kept.
+    let _tables = context.tables();
+    let held = context.intern::<L2, W>(node, interns)?;
+    Ok(Some(held.into_edge()))
+}
+
+/// The same for any pairs.
+fn change_many_pairs<M: Mix, W: Ledger, V: Ledger>(
     alloc: Global,
     context: &mut Context<M>,
     change: Change,
@@ -156,4 +192,34 @@ pub fn change_pairs<M: Mix, W: Ledger, V: Ledger>(
     let node = pair_node::<M>(alloc, size, hash, first, second);
     let held = context.intern::<L2, W>(node, interns)?;
     Ok(Some(held.into_edge()))
+}
+
+/// The edge for the pairs that the old one stands for, changed by those behind the first key of the run. The new edge
+/// is in hand.
+pub fn change_pairs<M: Mix, W: Ledger, V: Ledger>(
+    alloc: Global,
+    context: &mut Context<M>,
+    change: Change,
+    old: Option<Edge>,
+    run: &[Trip],
+    interns: &mut Steps<W>,
+    retains: &mut Steps<V>,
+) -> Result<Option<Edge>, Memory>
+    requires fits { FitsSome context.old 2 old }
+    requires some { 1 ≤ length run.now }
+    requires order { AreInOrder trip_rest run.now }
+    requires change { IsChange (grows change) (set_at context.old 2 old) (set_of_entries trip_rest run.now) }
+    requires room { LeavesRoom context.old (2 ^ 34 * length run.now) }
+    requires size { set.len (after (grows change) (set_at context.old 2 old) (set_of_entries trip_rest run.now)) < 2 ^ 64 }
+    ensures stands { IfOk result (StandsAt context.new 2 (after (grows change) (set_at context.old 2 old) (set_of_entries trip_rest run.now))) }
+    ensures moved { IfOk result (λ e. AreMoved M.mixed context.old context.new (at_depth 2 (option_leads e)) nothing) }
+    ensures counts { OnOk result (CountsRiseBy context.old context.new (λ _ _. 2 ^ 34 * length run.now)) }
+    ensures stay { OnOk result (RowsStay context.old context.new) }
+    ensures kept { OnErr result (context.new ≡ context.old) }
+    ensures ticks { interns.new ≤ interns.old + 3 * length run.now }
+{
+    match lone_pair(change, old, run) {
+        Some(node) => put_pair(context, node, interns),
+        None => change_many_pairs(alloc, context, change, old, run, interns, retains),
+    }
 }

@@ -1,5 +1,6 @@
 //! `tentris`: reads a script from standard input and writes its answers to standard output.
 #![tactic(auto)]
+
 ghost use Rattle.std.specs.Prelude.{◌≡◌, option_map};
 ghost use Rattle.tentris_cli.specs.Complaints.{line_of};
 

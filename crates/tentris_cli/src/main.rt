@@ -1,55 +1,78 @@
 //! `tentris`: reads a script from standard input and writes its answers to standard output.
 #![tactic(auto)]
 
-ghost use Rattle.std.specs.Prelude.{◌≡◌, option_map};
+ghost use Rattle.std.specs.Prelude.{◌≡◌, ◌<◌, ◌⊎◌, IfOk, drop, length, map, option_map};
+ghost use Rattle.std.specs.String.{string_bytes};
+ghost use Rattle.std.specs.Vec.Iter.{into_iter_items};
 ghost use Rattle.tentris_cli.specs.Complaints.{line_of};
 
 mod standard;
 
 use plain_store::PlainStore;
 use standard::{Input, Output};
-use std::alloc::AllocError;
+use std::alloc::{AllocError, Global};
+use std::env::Args;
 use std::process::ExitCode;
 use std::{env, io};
 use tentris_core::{Status, run};
 
-// The words after the program's name. Words that are not UTF-8 are bad words.
-fn words(rt: &HostRuntime) -> Result<Vec<String>, Status> {
-    let args = match env::args(rt) {
-        Ok(args) => args,
-        Err(error) if error.kind() == io::ErrorKind::InvalidData => return Err(Status::BadWords),
-        Err(_) => return Err(Status::Memory),
-    };
-    let mut words = Vec::new(rt.alloc());
-    for word in args.skip(1) {
-        if words.push(word).is_err() {
-            return Err(Status::Memory);
-        }
+// The command line. Words that are not UTF-8 are bad words.
+fn command_line(rt: &HostRuntime) -> Result<Args, Status> {
+    match env::args(rt) {
+        Ok(args) => Ok(args),
+        Err(error) if error.kind() == io::ErrorKind::InvalidData => Err(Status::BadWords),
+        Err(_) => Err(Status::Memory),
+    }
+}
+
+// The words behind the program's name.
+fn behind_name(alloc: Global, args: Args) -> Result<Vec<String>, AllocError>
+    ensures { IfOk result (λ words. words.items ≡ drop 1 (into_iter_items args)) }
+{
+    let mut args = args;
+    args.next();
+    let mut words = Vec::new(alloc);
+    while let Some(word) = args.next() {
+        words.push(word)?;
     }
     Ok(words)
 }
 
 // The words lent.
-fn lent<'a>(rt: &HostRuntime, words: &'a [String]) -> Result<Vec<&'a str>, AllocError> {
-    let mut lent = Vec::new(rt.alloc());
+fn lent<'a>(alloc: Global, words: &'a [String]) -> Result<Vec<&'a str>, AllocError>
+    ensures { IfOk result (λ lent. map (λ word. word.now) lent.items ≡ map string_bytes words.now) }
+{
+    let mut lent = Vec::new(alloc);
     for word in words {
         lent.push(word.as_str())?;
     }
     Ok(lent)
 }
 
-fn carry_out(rt: &HostRuntime) -> Status {
-    let words = match words(rt) {
-        Ok(words) => words,
-        Err(status) => return status,
-    };
-    let Ok(words) = lent(rt, &words) else {
+// Carries out the script on standard input over an empty graph.
+fn carry_out(rt: &HostRuntime, words: &[String]) -> Status
+    ensures words { result ≡ Status.BadWords → 0 < length words.now }
+    ensures none { 0 < length words.now → (result ≡ Status.BadWords) ⊎ (result ≡ Status.Memory) }
+{
+    let Ok(words) = lent(rt.alloc(), words) else {
         return Status::Memory;
     };
     let mut store = PlainStore::new(rt.alloc());
     let mut source = Input::new(rt.stdin());
     let mut sink = Output::new(rt.stdout());
     run(rt.alloc(), &words, &mut store, &mut source, &mut sink)
+}
+
+// Reads the command line and carries out the script.
+fn start(rt: &HostRuntime) -> Status {
+    let args = match command_line(rt) {
+        Ok(args) => args,
+        Err(status) => return status,
+    };
+    match behind_name(rt.alloc(), args) {
+        Ok(words) => carry_out(rt, &words),
+        Err(_) => Status::Memory,
+    }
 }
 
 // The line on standard error for a status, if it has one.
@@ -67,7 +90,7 @@ fn complaint(status: Status) -> Option<&'static str>
 }
 
 fn main(rt: HostRuntime) -> ExitCode {
-    let status = carry_out(&rt);
+    let status = start(&rt);
     if let Some(line) = complaint(status) {
         let _ = eprintln!(rt; "{line}");
     }

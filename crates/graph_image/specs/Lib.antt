@@ -1,0 +1,4 @@
+pub mod Images
+pub mod TermLaws
+pub mod ImageLaws
+pub mod DictLaws

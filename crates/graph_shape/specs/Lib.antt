@@ -1,0 +1,4 @@
+pub mod Sorting
+pub mod SortLaws
+pub mod GraphShapes
+pub mod Laws

@@ -1,5 +1,5 @@
 -- Triples that can be written as lines of N-Triples (RDF 1.1 N-Triples, section 7).
-use Rattle.std.specs.Prelude.{◌≡◌, true, ⊥}
+use Rattle.std.specs.Prelude.{◌≡◌, true}
 use Rattle.std.specs.FinSet as set
 use Rattle.rdf_model.specs.Terms.{Term, Iri, Blank, Literal, Triple}
 use Rattle.rdf_model.specs.Graph.{Graph}

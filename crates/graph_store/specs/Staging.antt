@@ -1,5 +1,6 @@
 -- Triples that are staged, with the terms that came with them, and triples that are marked.
 use Rattle.std.specs.Prelude.{◌≡◌, ◌⊎◌, ℕ, ◌+◌, ◌<◌, ◌≤◌, not, true, false, List, [], ◌∷◌, IsSome, Some, refl}
+use Rattle.std.specs.Prelude.{map as map_list}
 use Rattle.std.specs.Coded.{Coded, code_by, coded×, coded_ℕ, coded_list}
 use Rattle.std.specs.FinMap as map
 use Rattle.std.specs.FinSet as set
@@ -24,8 +25,7 @@ abbrev pub nothing_staged : Staging
 nothing_staged = record { triples = set.empty; added = [] }
 
 abbrev pub numbers : List Id → List ℕ
-numbers [] = []
-numbers (id ∷ ids) = id.0 ∷ numbers ids
+numbers ids = map_list (λ id. id.0) ids
 
 -- the staged triples as a graph
 abbrev pub staged_graph : State → Staging → Graph

@@ -1,0 +1,17 @@
+use Rattle.std.proofs.Common.{◌≡◌, ◌∙◌, sym, ap, subst}
+use Rattle.std.specs.FinSet as set
+use Rattle.trie_context.specs.Kept.{AreKept}
+use Rattle.trie_view.specs.Places.{IsRootThere}
+use Rattle.graph_image.specs.ImageLaws.{len-graph_of}
+use Rattle.graph_store.specs.State.{graph}
+use Rattle.graph_store.proofs.RootLemmas.{root_there}
+use Rattle.graph_store.proofs.store.Store.triples.Goals as goal
+
+pub count-requires-clause-kept : goal.count-requires-clause-kept
+count-requires-clause-kept g c = (g.M.Mix.mixed, subst (AreKept g.M.Mix.mixed) (sym c.tables.ensures.same) c.tables.ensures.kept)
+
+pub count-requires-clause-there : goal.count-requires-clause-there
+count-requires-clause-there g c = subst (λ t. IsRootThere t c.self.inside.root) (sym c.tables.ensures.same) (root_there c.self.inside.ctx c.self.inside.root c.self.invariant.only)
+
+pub returns-clause-value : goal.returns-clause-value
+returns-clause-value g c = ?

@@ -86,7 +86,7 @@ len-keys H i =
     let at = λ (t : List ℕ). get_or t i 0 in
     let within = len-part total exact (image nat_cmp at H) (keys nat_cmp H i) (λ k e.
     let u = some_member (slice nat_cmp H i k) (key-slice total exact H i k e) in
-    value_in tuples_total tuples_exact total exact at H k (by_length _ i u.0
+    value_in tuples_total tuples_exact total exact at H k (by_length total exact _ i u.0
     (λ le. record { member = insert u.0 i k; there = sym (has-slice total exact H i k u.0 le) ∙ u.1; is = element u.0 i k le })
     (λ gt. absurd (let f : false ≡ true = sym (has-slice_short total exact H i k u.0 gt) ∙ u.1 in let g : ⊥ = cc in g)))) in
     let few = len-image_most tuples_total tuples_exact total exact at H in

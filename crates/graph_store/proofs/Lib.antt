@@ -6,3 +6,5 @@ pub mod FoundLemmas
 pub mod RootLemmas
 pub mod CountLemmas
 pub mod EmptyLemmas
+pub mod TermsLemmas
+pub mod StagingLemmas

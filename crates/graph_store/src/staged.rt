@@ -151,6 +151,8 @@ impl<M: Mix> Store<M> {
         ensures before { OnErr result (self.new ≡ before self.old staged) }
         ensures ticks { interns.new ≤ interns.old + (9 * set.len (staged_graph self.old staged) + 10) }
     {
+        // This call tells the proof that the dictionary is one to one.
+        self.dict.len();
         let Staged { trips, added } = staged;
         match put_in(
             alloc,

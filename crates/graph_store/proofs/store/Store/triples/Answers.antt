@@ -1,6 +1,7 @@
-use Rattle.std.proofs.Common.{◌≡◌, ◌∙◌, sym, ap, subst}
+use Rattle.std.proofs.Common.{◌∙◌, sym, ap, subst}
 use Rattle.std.specs.FinSet as set
 use Rattle.trie_context.specs.Kept.{AreKept}
+use Rattle.trie_context.specs.Roots.{root_set}
 use Rattle.trie_view.specs.Places.{IsRootThere}
 use Rattle.graph_image.specs.ImageLaws.{len-graph_of}
 use Rattle.graph_store.specs.State.{graph}
@@ -14,4 +15,9 @@ pub count-requires-clause-there : goal.count-requires-clause-there
 count-requires-clause-there g c = subst (λ t. IsRootThere t c.self.inside.root) (sym c.tables.ensures.same) (root_there c.self.inside.ctx c.self.inside.root c.self.invariant.only)
 
 pub returns-clause-value : goal.returns-clause-value
-returns-clause-value g c = ?
+returns-clause-value g c =
+    let t = c.self.inside.ctx in
+    let r = c.self.inside.root in
+    c.count.ensures ∙ ap (λ u. set.len (root_set u r)) c.tables.ensures.same
+    ∙ sym (len-graph_of c.self.inside.dict c.len.ensures.one (root_set t r) c.self.invariant.known)
+    ∙ ap (λ s. set.len (graph s)) c.self.view_is

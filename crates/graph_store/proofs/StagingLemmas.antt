@@ -268,3 +268,7 @@ module _ (d : Terms) (t : Tables) (r : Root) (max : ℕ) (b : Staging) (sound : 
             once = once_more;
             few = let n = ap set.len grown_graph in let m = ap set.len staged_graph_is in let k = len-insert_most S triple in omega (arith, n, m, k, room);
           }
+
+-- the same of what contracts see
+pub fits_back : (s u : State) (b c : Staging) → u ≡ s → c ≡ b → Fits s b → Fits u c
+fits_back s u b c same staged fits = subst (λ x. Fits x c) (sym same) (subst (Fits s) (sym staged) fits)

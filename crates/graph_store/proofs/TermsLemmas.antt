@@ -10,12 +10,12 @@ use Rattle.hypertrie_model.specs.SetLaws.{or_cases, or_right, same_test, tied-is
 use Rattle.hypertrie_model.specs.MapLaws.{by_key}
 use Rattle.rdf_model.specs.Terms.{Term, Triple}
 use Rattle.rdf_model.specs.Graph.{Graph, term_cmp, triple_cmp, terms_total, exact_terms, triples_total, exact_triples}
-use Rattle.term_dict.specs.Dict.{Terms, IsNew}
+use Rattle.term_dict.specs.Dict.{Terms, IsNew, IsOneToOne}
 use Rattle.trie_depth.specs.declared.id.Trip.{Trip}
 use Rattle.trie_depth.specs.Tuples.{trip_tuple}
 use Rattle.graph_image.specs.Images.{term_at, triple_at, graph_of, IsKnown, AreKnown, terms_of}
 use Rattle.graph_image.specs.TermLaws.{IsTermOf, term_in, in_terms, len-union_most}
-use Rattle.graph_image.specs.ImageLaws.{get_is, term_is, in_graph}
+use Rattle.graph_image.specs.ImageLaws.{get_is, term_is, in_graph, contains-graph_of}
 use Rattle.graph_store.specs.Noted.{HasIds, HasNewTerm, with_terms}
 
 or_left : (a b : Bool) → a ≡ true → (a || b) ≡ true
@@ -92,6 +92,10 @@ module _ (terms : Terms) (t : Triple) (trip : Trip) (ids : HasIds terms t trip) 
     predicate = ap is_some ids.p;
     object = ap is_some ids.o;
   }
+
+  -- the graph has the triple exactly where the set has the Ids
+  pub found_triple : IsOneToOne terms → (H : IdSet) → AreKnown terms H → has H (trip_tuple trip) ≡ set.contains (graph_of terms H) t
+  found_triple one H known = sym (contains-graph_of terms one H known (trip_tuple trip) trip_known) ∙ ap (set.contains (graph_of terms H)) triple_is
 
 -- a triple with a term that the dictionary lacks is in no graph that it reads
 pub not_in_graph : (terms : Terms) (H : IdSet) → AreKnown terms H → (t : Triple) → HasNewTerm terms t → set.contains (graph_of terms H) t ≡ false

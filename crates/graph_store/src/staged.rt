@@ -103,6 +103,8 @@ impl<M: Mix> Store<M> {
         requires { Fits self.now staged.now }
         ensures { result ≡ (set.contains (graph self.now) (lent_triple triple.entry) || set.contains (staged_graph self.now staged.now) (lent_triple triple.entry)) }
     {
+        // This call tells the proof that the dictionary is one to one.
+        self.dict.len();
         let Some(trip) = ids_of(&self.dict, triple) else {
             return false;
         };
@@ -122,8 +124,11 @@ impl<M: Mix> Store<M> {
         ensures store { OnErr result (self.new ≡ self.old) }
         ensures refused { OnErr result (staged.new ≡ staged.old) }
     {
+        // This call tells the proof that the dictionary is one to one, and so does the next one.
+        self.dict.len();
         let keep = staged.added.len();
         let trip = intern_triple(&mut self.dict, &mut staged.added, triple)?;
+        self.dict.len();
         if has_triple(self.ctx.tables(), &self.root, trip) {
             return Ok(());
         }

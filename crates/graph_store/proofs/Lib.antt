@@ -8,3 +8,4 @@ pub mod CountLemmas
 pub mod EmptyLemmas
 pub mod TermsLemmas
 pub mod StagingLemmas
+pub mod FullLemmas

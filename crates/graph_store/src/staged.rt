@@ -30,14 +30,6 @@ pub enum StageFault {
     Memory,
 }
 
-impl From<Memory> for StageFault {
-    fn from(_: Memory) -> Self
-        ensures { result ≡ fault.Memory }
-    {
-        StageFault::Memory
-    }
-}
-
 /// Triples that are to be put in, and the terms that came into the dictionary for them. It must be spent, by
 /// `Store::insert` or `Store::abandon`.
 pub struct Staged {
@@ -88,14 +80,26 @@ impl<M: Mix> Store<M> {
         if now > self.max {
             return Err(StageFault::Full);
         }
-        if now + staged.trips.len() as u64 >= self.max {
+        if now + self.n_staged(staged) >= self.max {
             if self.is_there(staged, triple) {
                 return Ok(());
             }
             return Err(StageFault::Full);
         }
-        self.add(staged, triple)?;
-        Ok(())
+        match self.add(staged, triple) {
+            Ok(()) => Ok(()),
+            Err(Memory) => Err(StageFault::Memory),
+        }
+    }
+
+    /// How many triples are staged.
+    fn n_staged(&self, staged: &Staged) -> u64
+        requires { Fits self.now staged.now }
+        ensures { result ≡ set.len (staged_graph self.now staged.now) }
+    {
+        // This call tells the proof that the dictionary is one to one.
+        self.dict.len();
+        staged.trips.len() as u64
     }
 
     /// Whether the graph or the staged triples have the triple.

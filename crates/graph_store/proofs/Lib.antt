@@ -9,3 +9,4 @@ pub mod EmptyLemmas
 pub mod TermsLemmas
 pub mod StagingLemmas
 pub mod FullLemmas
+pub mod ForgetLemmas

@@ -47,7 +47,7 @@ proper_insert G t g p q e = or_cases (eq_by_cmp triple_cmp q t) (set.contains G 
     (g q)
 
 -- the term of an Id that known triples use is one of their graph
-used_term : (terms : Terms) (H : IdSet) → AreKnown terms H → (id : ℕ) → IsUsed H id → set.contains (terms_of (graph_of terms H)) (term_at terms id) ≡ true
+pub used_term : (terms : Terms) (H : IdSet) → AreKnown terms H → (id : ℕ) → IsUsed H id → set.contains (terms_of (graph_of terms H)) (term_at terms id) ≡ true
 used_term terms H known id used =
     let k = known used.tuple used.there in
     let there = graph_in terms H used.tuple used.there in

@@ -64,6 +64,8 @@ impl<M: Mix> Store<M> {
         ensures there { AreMarked self.now taken.old → AreMarked self.now taken.new }
         ensures refused { OnErr result (taken.new ≡ taken.old) }
     {
+        // This call tells the proof that the dictionary is one to one.
+        self.dict.len();
         let Some(trip) = ids_of(&self.dict, triple) else {
             return Ok(());
         };
@@ -91,6 +93,8 @@ impl<M: Mix> Store<M> {
         ensures kept { OnErr result (self.new ≡ self.old) }
         ensures ticks { interns.new ≤ interns.old + (9 * set.len (marked_graph self.old taken) + 10) }
     {
+        // This call tells the proof that the dictionary is one to one.
+        self.dict.len();
         let Taken { trips } = taken;
         let batch = trips.listed(alloc)?;
         let ids = ids_in(alloc, &batch)?;

@@ -82,17 +82,24 @@ module _ (terms : Terms) (ids : List Id) (there : (id : ℕ) → is_among (numbe
   parts : numbers (take i ids) ++ (get_or ids i d).0 ∷ numbers (drop (i + 1) ids) ≡ numbers ids
   parts = sym (numbers-append (take i ids) (get_or ids i d ∷ drop (i + 1) ids)) ∙ ap numbers (split ids i d within)
 
-  new_to_before : is_among (numbers (take i ids)) (get_or ids i d).0 ≡ false
+  pub new_to_before : is_among (numbers (take i ids)) (get_or ids i d).0 ≡ false
   new_to_before = distinct_before (numbers (take i ids)) (get_or ids i d).0 (numbers (drop (i + 1) ids)) (subst AreDistinct (sym parts) once)
+
+  pub here : IsSome (map.get terms (get_or ids i d).0)
+  here =
+      let id = (get_or ids i d).0 in
+      there id (sym (ap (λ ns. is_among ns id) parts) ∙ among-append (numbers (take i ids)) (id ∷ numbers (drop (i + 1) ids)) id ∙ or_right (is_among (numbers (take i ids)) id) _ (ap (λ b. b || is_among (numbers (drop (i + 1) ids)) id) (tied-itself total id)))
 
   pub still_there : IsSome (map.get (without terms (numbers (take i ids))) (get_or ids i d).0)
   still_there =
       let id = (get_or ids i d).0 in
-      subst IsSome (sym (get-without terms (numbers (take i ids)) id ∙ ap (λ b. cond b None (map.get terms id)) new_to_before))
-      (there id (sym (ap (λ ns. is_among ns id) parts) ∙ among-append (numbers (take i ids)) (id ∷ numbers (drop (i + 1) ids)) id ∙ or_right (is_among (numbers (take i ids)) id) _ (ap (λ b. b || is_among (numbers (drop (i + 1) ids)) id) (tied-itself total id))))
+      subst IsSome (sym (get-without terms (numbers (take i ids)) id ∙ ap (λ b. cond b None (map.get terms id)) new_to_before)) here
+
+  pub numbers_next : numbers (take i ids) ++ (get_or ids i d).0 ∷ [] ≡ numbers (take (i + 1) ids)
+  numbers_next = sym (numbers-append (take i ids) (get_or ids i d ∷ [])) ∙ ap numbers (take_next ids i d within)
 
   pub next_gone : map.remove (without terms (numbers (take i ids))) (get_or ids i d).0 ≡ without terms (numbers (take (i + 1) ids))
-  next_gone = sym (without-snoc terms (numbers (take i ids)) (get_or ids i d).0) ∙ ap (without terms) (sym (numbers-append (take i ids) (get_or ids i d ∷ [])) ∙ ap numbers (take_next ids i d within))
+  next_gone = sym (without-snoc terms (numbers (take i ids)) (get_or ids i d).0) ∙ ap (without terms) numbers_next
 
 -- ---- one term interned
 

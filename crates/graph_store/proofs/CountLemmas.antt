@@ -1,18 +1,16 @@
 -- The counts of the rows of a graph's shape are small.
-use Rattle.std.proofs.Common.{◌≡◌, ◌∙◌, ℕ, zero, suc, ◌+◌, ◌-◌, ◌*◌, ◌≤◌, ◌<◌, ◌^◌, ◌&&◌, ◌||◌, not, Bool, true, false, cond, List, [], ◌∷◌, length, get_or, Option, None, Some, refl, sym, ap, subst, inl, inr, arith}
+use Rattle.std.proofs.Common.{◌≡◌, ◌∙◌, ℕ, zero, suc, ◌+◌, ◌-◌, ◌*◌, ◌≤◌, ◌^◌, ◌&&◌, ◌||◌, not, Bool, true, false, cond, List, [], ◌∷◌, length, get_or, Option, None, Some, refl, sym, ap, subst, arith}
 use Rattle.std.proofs.Math.Nat.{mul-add}
 use Rattle.std.specs.declared.cmp.Ordering.{Ordering}
 use Rattle.std.specs.List.{insert}
 use Rattle.std.specs.Ordering.{eq_by_cmp, nat_cmp}
 use Rattle.std.specs.Cmp.{nat_cmp_total as total, IsTotalOrder}
-use Rattle.std.specs.Cmp.Lexicographic.{slice_cmp}
 use Rattle.std.specs.FinMap as map
 use Rattle.std.specs.FinMap.{FinMap, nat_cmp-IsAntisymmetric as exact}
 use Rattle.std.specs.FinSet as set
 use Rattle.std.specs.FinSet.{FinSet, IsAntisymmetric}
 use Rattle.hypertrie_model.specs.IdSets.{IdSet}
-use Rattle.hypertrie_model.specs.Sets.{has, empty}
-use Rattle.hypertrie_model.specs.SetLaws.{same_test, and_both}
+use Rattle.hypertrie_model.specs.SetLaws.{and_both}
 use Rattle.hypertrie_model.specs.SetInduction.{len-union_disjoint}
 use Rattle.hypertrie_model.specs.MapLaws.{map_ind, get-insert_here, get-insert_other}
 use Rattle.hypertrie_model.specs.Folds.{sum_over, marked}
@@ -21,7 +19,7 @@ use Rattle.hypertrie_model.specs.Members.{contains-kept}
 use Rattle.hypertrie_model.specs.SliceSizes.{len-slice}
 use Rattle.hypertrie_model.specs.Slices.{keys, slice}
 use Rattle.hypertrie_model.specs.SliceLaws.{has-slice, has-slice_short, by_length, key-slice}
-use Rattle.hypertrie_model.specs.Shapes.{set_cmp, slices, times, two, count2, count1, SetOfSets}
+use Rattle.hypertrie_model.specs.Shapes.{set_cmp, slices, times, two, count1}
 use Rattle.hypertrie_model.specs.ShapeRows.{IsRowOf, in_shape}
 use Rattle.hypertrie_model.specs.ShapeLaws.{sets_total, sets_exact, has-two, count2-sum}
 use Rattle.node_table.specs.Table.{Row}

@@ -1,21 +1,19 @@
 -- The empty store.
-use Rattle.std.proofs.Common.{◌≡◌, ◌∙◌, ◌≤◌, ℕ, Option, None, Some, false, true, refl, sym, ap, subst, arith}
+use Rattle.std.proofs.Common.{◌≡◌, ◌∙◌, ℕ, None, Some, false, true, sym, ap, arith}
 use Rattle.std.specs.Ordering.{nat_cmp}
 use Rattle.std.specs.Cmp.Lexicographic.{slice_cmp}
 use Rattle.std.specs.FinSet as set
 use Rattle.std.specs.FinMap as map
-use Rattle.hypertrie_model.specs.Folds.{sum_over}
-use Rattle.rdf_model.specs.Terms.{Term, Triple}
-use Rattle.rdf_model.specs.Graph.{Graph, triple_cmp}
+use Rattle.rdf_model.specs.Terms.{Triple}
+use Rattle.rdf_model.specs.Graph.{triple_cmp}
 use Rattle.term_dict.specs.Dict.{Terms}
 use Rattle.trie_context.specs.declared.root.Root.TheVariants.{Empty}
-use Rattle.trie_context.specs.Rows.{no_tables, row_of, rows_at}
-use Rattle.trie_context.specs.Holds.{holds_of, count_of, edges_from}
+use Rattle.trie_context.specs.Rows.{no_tables, row_of}
+use Rattle.trie_context.specs.Holds.{holds_of, count_of}
 use Rattle.trie_context.specs.RowLaws.{empty_at}
 use Rattle.graph_image.specs.Images.{graph_of, terms_of, HasExactly}
 use Rattle.graph_image.specs.ImageLaws.{graph_of-empty}
 use Rattle.graph_image.specs.TermLaws.{term_in}
-use Rattle.graph_store.specs.Proper.{AreProper}
 use Rattle.graph_store.specs.State.{IsSound}
 
 no_holds : (d r : ℕ) → holds_of no_tables d r ≡ 0

@@ -1,6 +1,5 @@
 -- A dictionary that loses those of some Ids that no triple has any more.
-use Rattle.std.proofs.Common.{◌≡◌, ◌∙◌, ◌⊎◌, ℕ, ◌+◌, ◌≤◌, ◌<◌, ◌||◌, ◌&&◌, not, Bool, true, false, cond, List, [], ◌∷◌, ◌++◌, Option, None, Some, IsSome, is_some, unwrap_or, refl, sym, ap, subst, inl, inr, arith}
-use Rattle.std.proofs.lemmas.Bool.{false_from_ne_true}
+use Rattle.std.proofs.Common.{◌≡◌, ◌∙◌, ℕ, ◌||◌, ◌&&◌, not, Bool, true, false, List, [], ◌∷◌, ◌++◌, None, Some, refl, sym, ap, subst, inl, inr, arith}
 use Rattle.std.specs.Ordering.{eq_by_cmp, nat_cmp}
 use Rattle.std.specs.Cmp.{nat_cmp_total as total}
 use Rattle.std.specs.FinMap as map
@@ -12,15 +11,15 @@ use Rattle.hypertrie_model.specs.SetLaws.{or_cases, or_right, or-false, tied-is,
 use Rattle.hypertrie_model.specs.MapLaws.{by_key, get-remove_here, get-remove_other}
 use Rattle.hypertrie_model.specs.Changes.{IsChange}
 use Rattle.hypertrie_model.specs.ChangeLaws.{len-shrunk}
-use Rattle.rdf_model.specs.Terms.{Term, Iri, Triple}
-use Rattle.rdf_model.specs.Graph.{Graph, triples_total}
+use Rattle.rdf_model.specs.Terms.{Term, Triple}
+use Rattle.rdf_model.specs.Graph.{triples_total}
 use Rattle.term_dict.specs.Dict.{Terms, IsOneToOne}
 use Rattle.trie_context.specs.declared.root.Root.{Root}
 use Rattle.trie_context.specs.declared.tables.Tables.{Tables}
 use Rattle.trie_context.specs.Roots.{root_set}
 use Rattle.trie_context.specs.RootShape.{OnlyRootHeld}
-use Rattle.graph_image.specs.Images.{term_at, triple_at, graph_of, IsKnown, AreKnown, terms_of, HasExactly, is_among, IsUsed}
-use Rattle.graph_image.specs.TermLaws.{IsTermOf, term_in}
+use Rattle.graph_image.specs.Images.{triple_at, graph_of, AreKnown, terms_of, HasExactly, is_among, IsUsed}
+use Rattle.graph_image.specs.TermLaws.{term_in}
 use Rattle.graph_image.specs.ImageLaws.{tuples_total, get_is, term_is, in_graph, known_within, known_difference, graph_of-difference}
 use Rattle.graph_image.specs.DictLaws.{AgreeOnUsed, known_same, graph_same, used_s, used_p, used_o}
 use Rattle.graph_store.specs.Proper.{AreProper}

@@ -1,8 +1,8 @@
 -- A triple that is found by fixing its Ids one after another, and an Id that is found at one of three positions.
-use Rattle.std.proofs.Common.{◌≡◌, ◌≢◌, ◌∙◌, ℕ, zero, suc, ◌+◌, ◌≤◌, ◌<◌, ◌^◌, ◌&&◌, ◌||◌, Bool, true, false, cond, List, [], ◌∷◌, length, refl, sym, ap, subst, arith}
+use Rattle.std.proofs.Common.{◌≡◌, ◌∙◌, ℕ, suc, ◌&&◌, ◌||◌, Bool, true, false, List, [], ◌∷◌, length, refl, sym, ap, arith}
 use Rattle.std.proofs.lemmas.Bool.{false_from_ne_true}
 use Rattle.std.proofs.lemmas.List.Elements.{All-from_recursion}
-use Rattle.std.specs.List.{All, AllByRecursion, list_any}
+use Rattle.std.specs.List.{AllByRecursion, list_any}
 use Rattle.std.specs.Ordering.{eq_by_cmp, nat_cmp}
 use Rattle.std.specs.Cmp.{nat_cmp_total as total}
 use Rattle.std.specs.Cmp.Lexicographic.{slice_cmp}
@@ -17,7 +17,7 @@ use Rattle.hypertrie_model.specs.MaskLaws.{slice_at_no_mask, slice_at_mask-first
 use Rattle.trie_depth.specs.Masks.{FitsDepth}
 use Rattle.trie_depth.specs.OperandLaws.{at_mask-within}
 use Rattle.graph_image.specs.Images.{is_among, IsUsed}
-use Rattle.graph_image.specs.ImageLaws.{tuples_total, tuples_exact}
+use Rattle.graph_image.specs.ImageLaws.{tuples_total}
 
 -- ---- a triple
 

@@ -1,5 +1,5 @@
 -- When there is no place for a triple.
-use Rattle.std.proofs.Common.{◌≡◌, ◌∙◌, ◌⊎◌, ◌+◌, ◌<◌, ◌≤◌, ◌||◌, Bool, true, false, ℕ, refl, sym, ap, inl, inr, arith, if◌then◌else◌}
+use Rattle.std.proofs.Common.{◌≡◌, ◌∙◌, ◌+◌, ◌<◌, ◌≤◌, ◌||◌, Bool, true, false, refl, sym, inl, inr, arith, if◌then◌else◌}
 use Rattle.std.specs.FinSet as set
 use Rattle.rdf_model.specs.Terms.{Triple}
 use Rattle.rdf_model.specs.Graph.{Graph}

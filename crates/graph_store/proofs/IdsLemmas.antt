@@ -1,12 +1,11 @@
 -- The Ids of the triples of a list.
-use Rattle.std.proofs.Common.{◌≡◌, ◌∙◌, ℕ, ◌+◌, ◌<◌, ◌||◌, Bool, true, false, List, [], ◌∷◌, ◌++◌, length, map, take, get_or, refl, sym, ap}
+use Rattle.std.proofs.Common.{◌≡◌, ◌∙◌, ℕ, ◌+◌, ◌<◌, ◌||◌, Bool, true, false, List, [], ◌∷◌, length, map, take, get_or, refl, sym, ap}
 use Rattle.std.proofs.lemmas.List.{map-append}
 use Rattle.std.proofs.lemmas.List.Folds.{list_any-append}
 use Rattle.std.specs.Ordering.{eq_by_cmp, nat_cmp}
 use Rattle.std.specs.Cmp.{nat_cmp_total as total}
 use Rattle.std.specs.List.{list_any}
 use Rattle.std.specs.FinSet as set
-use Rattle.hypertrie_model.specs.SetLaws.{or-false}
 use Rattle.hypertrie_model.specs.SliceLaws.{any_passes, passes_any}
 use Rattle.trie_depth.specs.declared.id.Trip.{Trip}
 use Rattle.trie_depth.specs.Tuples.{trip_tuple}

@@ -1,20 +1,18 @@
 -- Ids that are noted: lists of them, and a dictionary that gains them and loses them again.
-use Rattle.std.proofs.Common.{◌≡◌, ◌⊎◌, ℕ, zero, suc, ◌+◌, ◌<◌, ◌≤◌, ◌^◌, ◌||◌, Bool, true, false, cond, List, [], ◌∷◌, ◌++◌, length, take, drop, drop-cons, get_or, Option, None, Some, IsSome, is_some, refl, sym, ◌∙◌, ap, subst, inl, inr, arith, append_assoc}
+use Rattle.std.proofs.Common.{◌≡◌, ℕ, zero, suc, ◌+◌, ◌<◌, ◌≤◌, ◌||◌, Bool, true, false, cond, List, [], ◌∷◌, ◌++◌, length, take, drop, drop-cons, get_or, Option, None, Some, IsSome, is_some, refl, sym, ◌∙◌, ap, subst, inl, inr, arith, append_assoc}
 use Rattle.std.proofs.lemmas.List.Folds.{list_any-append}
 use Rattle.std.proofs.lemmas.List.{append-nil, take-append-drop}
 use Rattle.std.specs.Ordering.{eq_by_cmp, nat_cmp}
 use Rattle.std.specs.Cmp.{nat_cmp_total as total}
 use Rattle.std.specs.FinMap as map
 use Rattle.std.specs.FinMap.{nat_cmp-IsAntisymmetric as exact}
-use Rattle.std.specs.FinSet as set
 use Rattle.hypertrie_model.specs.SetLaws.{or_cases, or_right, or-false, tied-is, tied-itself, tied-apart}
 use Rattle.hypertrie_model.specs.MapLaws.{by_key, same_maps, get-remove_here, get-remove_other, remove-insert}
-use Rattle.rdf_model.specs.Terms.{Term, Triple}
-use Rattle.rdf_model.specs.Graph.{term_cmp}
+use Rattle.rdf_model.specs.Terms.{Term}
 use Rattle.term_dict.specs.Dict.{Terms, IsNew, Interns}
 use Rattle.trie_depth.specs.declared.id.Id.{Id}
-use Rattle.graph_image.specs.Images.{HasExactly, is_among, without}
-use Rattle.graph_image.specs.DictLaws.{Extends, extends_on, get-without, without-none, insert_at, insert_other, insert_extends, insert_exactly, interns_exactly}
+use Rattle.graph_image.specs.Images.{is_among, without}
+use Rattle.graph_image.specs.DictLaws.{extends_on, get-without, without-none, insert_at, insert_extends}
 use Rattle.graph_store.specs.Staging.{numbers, AreDistinct}
 use Rattle.graph_store.specs.Noted.{Notes, Grows}
 

@@ -1,9 +1,7 @@
 -- The root of a graph whose tables are kept: its size, its row, and its depth.
-use Rattle.std.proofs.Common.{◌≡◌, ◌∙◌, ℕ, ◌≤◌, Option, None, Some, IsSome, IfSome, refl, sym, ap, subst, arith}
-use Rattle.std.specs.Ordering.{nat_cmp}
+use Rattle.std.proofs.Common.{◌≡◌, ◌∙◌, ℕ, IsSome, IfSome, sym, ap, subst, arith}
 use Rattle.std.specs.FinSet as set
 use Rattle.hypertrie_model.specs.IdSets.{IdSet}
-use Rattle.node_table.specs.Table.{Row}
 use Rattle.trie_node.specs.declared.node.Node.{Node}
 use Rattle.trie_node.specs.declared.node.Node.TheVariants.{Single, Full}
 use Rattle.trie_node.specs.Sets.{set_over, size_of}
@@ -14,9 +12,9 @@ use Rattle.trie_context.specs.declared.tables.Tables.{Tables}
 use Rattle.trie_context.specs.Rows.{row_of, row_set, node_set, set_of}
 use Rattle.trie_context.specs.RowLaws.{row_there}
 use Rattle.trie_context.specs.Kept.{AreKept}
-use Rattle.trie_context.specs.Holds.{holds_of, one_at}
+use Rattle.trie_context.specs.Holds.{one_at}
 use Rattle.trie_context.specs.MoveLaws.{at_here, one_here, held_there}
-use Rattle.trie_context.specs.Roots.{root_set, root_hold, IsHeld}
+use Rattle.trie_context.specs.Roots.{IsHeld}
 use Rattle.trie_context.specs.RootShape.{OnlyRootHeld}
 use Rattle.trie_view.specs.Places.{IsRootThere}
 

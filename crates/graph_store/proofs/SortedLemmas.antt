@@ -1,16 +1,14 @@
 -- The set of what sorted keys stand for.
-use Rattle.std.proofs.Common.{◌≡◌, ◌∙◌, ℕ, ◌+◌, Bool, true, false, cond, ◌||◌, List, [], ◌∷◌, length, map, refl, sym, ap, arith}
+use Rattle.std.proofs.Common.{◌≡◌, ◌∙◌, ◌+◌, Bool, true, false, cond, ◌||◌, List, [], ◌∷◌, length, map, refl, sym, ap, arith}
 use Rattle.std.specs.declared.cmp.Ordering.{Ordering}
 use Rattle.std.specs.declared.cmp.Ordering.TheVariants.{Less, Equal, Greater}
-use Rattle.std.specs.Ordering.{eq_by_cmp, is_eq, match_ordering, ordering_then, nat_cmp}
+use Rattle.std.specs.Ordering.{eq_by_cmp, is_eq, match_ordering, ordering_then}
 use Rattle.std.specs.Cmp.{IsTotalOrder}
-use Rattle.std.specs.Cmp.Lexicographic.{slice_cmp}
 use Rattle.std.specs.List.{list_any, AllByRecursion}
 use Rattle.std.specs.List.Sorted.{IsStrictlySortedBy}
 use Rattle.std.specs.BTreeSet.{insert_key}
 use Rattle.std.specs.FinSet as set
 use Rattle.std.specs.FinSet.{FinSet, IsAntisymmetric}
-use Rattle.hypertrie_model.specs.ShapeLaws.{any-map}
 
 pub map_itself : {X : Type 0} (xs : List X) → map (λ x. x) xs ≡ xs
 map_itself [] = refl

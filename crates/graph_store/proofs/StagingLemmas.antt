@@ -1,5 +1,5 @@
 -- A store with staged triples: before anything was staged, with one triple more, and with all of them put in.
-use Rattle.std.proofs.Common.{◌≡◌, ◌∙◌, ◌⊎◌, ℕ, ◌+◌, ◌*◌, ◌≤◌, ◌<◌, ◌^◌, ◌||◌, not, Bool, true, false, cond, List, [], ◌∷◌, ◌++◌, Option, None, Some, IsSome, is_some, refl, sym, ap, subst, inl, inr, arith}
+use Rattle.std.proofs.Common.{◌≡◌, ◌∙◌, ℕ, ◌+◌, ◌≤◌, ◌<◌, ◌||◌, not, Bool, true, false, cond, List, [], ◌∷◌, ◌++◌, Option, None, Some, IsSome, is_some, refl, sym, ap, subst, inl, inr, arith}
 use Rattle.std.proofs.lemmas.Bool.{false_from_ne_true}
 use Rattle.std.specs.Ordering.{eq_by_cmp, nat_cmp}
 use Rattle.std.specs.Cmp.{nat_cmp_total as total}
@@ -9,14 +9,13 @@ use Rattle.std.specs.FinMap.{nat_cmp-IsAntisymmetric as exact}
 use Rattle.std.specs.FinSet as set
 use Rattle.hypertrie_model.specs.IdSets.{IdSet}
 use Rattle.hypertrie_model.specs.Sets.{has}
-use Rattle.hypertrie_model.specs.SetLaws.{or_cases, or_right, tied-is, tied-itself}
+use Rattle.hypertrie_model.specs.SetLaws.{or_cases, or_right, tied-is}
 use Rattle.hypertrie_model.specs.SetInduction.{union_insert}
 use Rattle.hypertrie_model.specs.MapLaws.{same_maps}
-use Rattle.hypertrie_model.specs.Changes.{IsChange}
 use Rattle.hypertrie_model.specs.ChangeLaws.{len-grown}
 use Rattle.rdf_model.specs.Terms.{Term, Triple}
 use Rattle.rdf_model.specs.Graph.{Graph, term_cmp, triple_cmp, triples_total, exact_triples}
-use Rattle.term_dict.specs.Dict.{Terms, IsNew, IsOneToOne}
+use Rattle.term_dict.specs.Dict.{Terms, IsOneToOne}
 use Rattle.trie_depth.specs.declared.id.Id.{Id}
 use Rattle.trie_depth.specs.declared.id.Trip.{Trip}
 use Rattle.trie_depth.specs.Tuples.{trip_tuple}
@@ -24,13 +23,13 @@ use Rattle.trie_context.specs.declared.root.Root.{Root}
 use Rattle.trie_context.specs.declared.tables.Tables.{Tables}
 use Rattle.trie_context.specs.Roots.{root_set}
 use Rattle.trie_context.specs.RootShape.{OnlyRootHeld}
-use Rattle.graph_image.specs.Images.{term_at, triple_at, graph_of, IsKnown, AreKnown, terms_of, HasExactly, is_among, without, IsUsed}
+use Rattle.graph_image.specs.Images.{term_at, triple_at, graph_of, AreKnown, terms_of, HasExactly, is_among, without, IsUsed}
 use Rattle.graph_image.specs.TermLaws.{IsTermOf, term_in, in_terms, len-terms, len-terms_of}
-use Rattle.graph_image.specs.ImageLaws.{tuples_total, tuples_exact, get_is, graph_in, known_union, known_insert, graph_of-insert, graph_of-union, len-graph_of, contains-graph_of}
-use Rattle.graph_image.specs.DictLaws.{Extends, AgreeOnUsed, known_same, graph_same, extends_agree, without_agree, get-without, among_known, known_there}
+use Rattle.graph_image.specs.ImageLaws.{tuples_total, tuples_exact, get_is, graph_in, known_union, known_insert, graph_of-insert, graph_of-union, len-graph_of}
+use Rattle.graph_image.specs.DictLaws.{AgreeOnUsed, known_same, graph_same, extends_agree, without_agree, get-without, among_known, known_there}
 use Rattle.graph_store.specs.Proper.{IsProperTriple, AreProper}
-use Rattle.graph_store.specs.State.{State, triples_of, graph, IsSettled, IsSound, most_triples}
-use Rattle.graph_store.specs.Staging.{Staging, numbers, staged_graph, AreDistinct, Fits, before}
+use Rattle.graph_store.specs.State.{State, IsSound, most_triples}
+use Rattle.graph_store.specs.Staging.{Staging, numbers, AreDistinct, Fits}
 use Rattle.graph_store.specs.Noted.{Grows, HasIds, with_terms}
 use Rattle.graph_store.proofs.NotedLemmas.{numbers-append, among-append, distinct-append}
 use Rattle.graph_store.proofs.TermsLemmas.{terms_of-insert, insert_member, len-insert_most, len-graphs_most, triple_is, trip_known}

@@ -1,8 +1,7 @@
 -- The terms of a graph with one triple more, and those that a dictionary lacks.
-use Rattle.std.proofs.Common.{◌≡◌, ◌∙◌, ◌⊎◌, ℕ, ◌+◌, ◌*◌, ◌≤◌, ◌<◌, ◌||◌, Bool, true, false, cond, List, Option, None, Some, IsSome, is_some, refl, sym, ap, subst, inl, inr, arith, ◌∷◌, []}
+use Rattle.std.proofs.Common.{◌≡◌, ◌∙◌, ◌+◌, ◌≤◌, ◌||◌, Bool, true, false, cond, Some, is_some, refl, sym, ap, subst, inl, inr, arith, ◌∷◌, []}
 use Rattle.std.proofs.lemmas.Bool.{false_from_ne_true}
-use Rattle.std.specs.Ordering.{eq_by_cmp, nat_cmp}
-use Rattle.std.specs.FinMap as map
+use Rattle.std.specs.Ordering.{eq_by_cmp}
 use Rattle.std.specs.FinSet as set
 use Rattle.hypertrie_model.specs.IdSets.{IdSet}
 use Rattle.hypertrie_model.specs.Sets.{has}
@@ -10,10 +9,10 @@ use Rattle.hypertrie_model.specs.SetLaws.{or_cases, or_right, same_test, tied-is
 use Rattle.hypertrie_model.specs.MapLaws.{by_key}
 use Rattle.rdf_model.specs.Terms.{Term, Triple}
 use Rattle.rdf_model.specs.Graph.{Graph, term_cmp, triple_cmp, terms_total, exact_terms, triples_total, exact_triples}
-use Rattle.term_dict.specs.Dict.{Terms, IsNew, IsOneToOne}
+use Rattle.term_dict.specs.Dict.{Terms, IsOneToOne}
 use Rattle.trie_depth.specs.declared.id.Trip.{Trip}
 use Rattle.trie_depth.specs.Tuples.{trip_tuple}
-use Rattle.graph_image.specs.Images.{term_at, triple_at, graph_of, IsKnown, AreKnown, terms_of}
+use Rattle.graph_image.specs.Images.{triple_at, graph_of, IsKnown, AreKnown, terms_of}
 use Rattle.graph_image.specs.TermLaws.{IsTermOf, term_in, in_terms, len-union_most}
 use Rattle.graph_image.specs.ImageLaws.{get_is, term_is, in_graph, contains-graph_of}
 use Rattle.graph_store.specs.Noted.{HasIds, HasNewTerm, with_terms}

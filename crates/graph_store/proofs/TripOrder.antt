@@ -1,5 +1,5 @@
 -- The order of triples of Ids is that of their tuples, and the order of Ids that of their numbers.
-use Rattle.std.proofs.Common.{◌≡◌, ℕ, List, refl, sym, ap}
+use Rattle.std.proofs.Common.{◌≡◌, ℕ, refl, sym, ap}
 use Rattle.std.specs.declared.cmp.Ordering.{Ordering}
 use Rattle.std.specs.Ordering.{nat_cmp, ordering_then}
 use Rattle.std.specs.Cmp.Lexicographic.{slice_cmp}

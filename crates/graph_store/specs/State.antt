@@ -1,5 +1,5 @@
 -- What contracts see of a store, and its graph.
-use Rattle.std.specs.Prelude.{◌≡◌, ℕ, ◌≤◌, true, refl}
+use Rattle.std.specs.Prelude.{ℕ, ◌≤◌, refl}
 use Rattle.std.specs.Coded.{Coded, code_by, coded×, coded_ℕ}
 use Rattle.std.specs.FinMap as map
 use Rattle.std.specs.FinSet as set

@@ -15,7 +15,9 @@ use trie_depth::{Id, Mask, Operand, Steps, Trip};
 use trie_view::Sub;
 
 const SUBJECT: Mask = Mask(1);
+
 const PREDICATE: Mask = Mask(2);
+
 const OBJECT: Mask = Mask(4);
 
 fn found<W: Ledger>(tables: &Tables, root: &Root, trip: Trip, reads: &mut Steps<W>) -> bool

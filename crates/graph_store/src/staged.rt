@@ -60,11 +60,7 @@ impl Staged {
 
 impl<M: Mix> Store<M> {
     /// Stages a triple, unless the graph or the staged triples have it.
-    pub fn stage(
-        &mut self,
-        staged: &mut Staged,
-        triple: TripleRef<'_>,
-    ) -> Result<(), StageFault>
+    pub fn stage(&mut self, staged: &mut Staged, triple: TripleRef<'_>) -> Result<(), StageFault>
         requires fits { Fits self.old staged.old }
         requires proper { IsProperTriple (lent_triple triple) }
         ensures same { self.new ≡ record self.old { dict = self.new.dict } }

@@ -67,11 +67,7 @@ fn intern_noted(dict: &mut Dict, noted: &mut Vec<Id>, term: TermRef<'_>) -> Resu
     Ok(id)
 }
 
-fn intern_each(
-    dict: &mut Dict,
-    noted: &mut Vec<Id>,
-    triple: TripleRef<'_>,
-) -> Result<Trip, Memory>
+fn intern_each(dict: &mut Dict, noted: &mut Vec<Id>, triple: TripleRef<'_>) -> Result<Trip, Memory>
     requires room { map.len dict.old + 2 < 2 ^ 31 }
     ensures ids { IfOk result (λ trip. HasIds dict.new (lent_triple triple.entry) trip) }
     ensures terms { OnOk result ((S : set.FinSet term_cmp) → HasExactly dict.old S → HasExactly dict.new (with_terms S (lent_triple triple.entry))) }

@@ -1,17 +1,14 @@
-use Rattle.std.proofs.Common.{◌≡◌, ◌∙◌, ◌≤◌, ◌<◌, ◌^◌, true, false, is_some, refl, sym, ap, subst, arith}
+use Rattle.std.proofs.Common.{◌≡◌, ◌∙◌, true, false, refl, sym, ap, subst, arith}
 use Rattle.std.specs.Ordering.{nat_cmp}
 use Rattle.std.specs.Cmp.Lexicographic.{slice_cmp}
 use Rattle.std.specs.FinSet as set
-use Rattle.hypertrie_model.specs.Sets.{has, empty, HasDepth}
-use Rattle.hypertrie_model.specs.Slices.{slice_at_mask}
-use Rattle.trie_depth.specs.Masks.{FitsDepth}
+use Rattle.hypertrie_model.specs.Sets.{has, HasDepth}
 use Rattle.trie_context.specs.Roots.{root_set}
 use Rattle.trie_view.specs.declared.sub.Sub.{Sub}
 use Rattle.trie_view.specs.Subs.{sub_depth, sub_set}
 use Rattle.trie_view.specs.PlaceLaws.{known_deep}
 use Rattle.graph_image.specs.Images.{IsUsed}
 use Rattle.graph_store.proofs.FoundLemmas.{used_at, used_nowhere}
-use Rattle.graph_store.proofs.lookup.used.Given as given
 use Rattle.graph_store.proofs.lookup.used.Goals as goal
 
 three : (s : Sub) → sub_depth s ≡ 3 → HasDepth 3 (sub_set s)
@@ -47,9 +44,9 @@ returns g c = (
       elim c.is_some-3.result as (λ b. c.is_some-3.result ≡ b → b ≡ true) [
         | true ↦ λ _. refl
         | false ↦ λ last. absurd (used_nowhere (sub_set c.in-Some.triples) (three c.in-Some.triples c.in-Some.ensures.depth) c.args.id.0
-        (c.fix.ensures.none.0 (sym c.is_some.ensures ∙ c.if-is_some.false))
-        (c.fix-2.ensures.none.0 (sym c.is_some-2.ensures ∙ c.if-is_some-2.false))
-        (c.fix-3.ensures.none.0 (sym c.is_some-3.ensures ∙ last))
-        (subst (λ H. IsUsed H c.args.id.0) (sym c.in-Some.ensures.set) used))
+            (c.fix.ensures.none.0 (sym c.is_some.ensures ∙ c.if-is_some.false))
+            (c.fix-2.ensures.none.0 (sym c.is_some-2.ensures ∙ c.if-is_some-2.false))
+            (c.fix-3.ensures.none.0 (sym c.is_some-3.ensures ∙ last))
+            (subst (λ H. IsUsed H c.args.id.0) (sym c.in-Some.ensures.set) used))
       ] refl,
 )

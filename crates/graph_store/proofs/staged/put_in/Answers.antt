@@ -1,4 +1,4 @@
-use Rattle.std.proofs.Common.{◌≤◌, ◌+◌, ap, arith}
+use Rattle.std.proofs.Common.{ap, arith}
 use Rattle.std.specs.FinSet as set
 use Rattle.trie_depth.specs.Tuples.{trip_tuple}
 use Rattle.trie_context.specs.Roots.{root_set}

@@ -1,6 +1,5 @@
-use Rattle.std.proofs.Common.{◌≡◌, ◌∙◌, true, false, IsSome, sym, ap, subst, take, get_or, ◌++◌, ◌∷◌, []}
+use Rattle.std.proofs.Common.{◌≡◌, ◌∙◌, true, false, IsSome, sym, subst, take, get_or, ◌++◌, ◌∷◌, []}
 use Rattle.std.proofs.lemmas.List.{take_all}
-use Rattle.std.specs.FinMap as map
 use Rattle.trie_depth.specs.declared.id.Id.{Id}
 use Rattle.trie_context.specs.Roots.{root_set}
 use Rattle.graph_image.specs.Images.{IsUsed}

@@ -1,8 +1,7 @@
-use Rattle.std.proofs.Common.{◌<◌, ◌^◌, arith}
-use Rattle.std.specs.FinMap as map
+use Rattle.std.proofs.Common.{arith}
 use Rattle.rdf_term.specs.Seen.{lent_term}
 use Rattle.graph_image.specs.DictLaws.{Extends, interns_at, interns_exactly, interns_extends}
-use Rattle.graph_store.specs.Noted.{Notes, Grows}
+use Rattle.graph_store.specs.Noted.{Notes}
 use Rattle.graph_store.proofs.NotedLemmas.{grows_same, grows_on, notes_grows, notes_few, notes_interns}
 use Rattle.graph_store.proofs.terms.intern_each.Goals as goal
 

@@ -1,4 +1,4 @@
-use Rattle.std.proofs.Common.{◌<◌, ◌≤◌, IsSome, refl, sym, subst, ◌∙◌, inl, inr, arith}
+use Rattle.std.proofs.Common.{◌<◌, ◌≤◌, IsSome, refl, sym, subst, ◌∙◌, inl, arith}
 use Rattle.std.specs.FinMap as map
 use Rattle.rdf_term.specs.Seen.{lent_term}
 use Rattle.graph_image.specs.DictLaws.{interns_at}

@@ -150,7 +150,7 @@ returns-clause-fits g c =
     let t = lent_triple c.args.triple in
     let absent : has (root_set i.ctx i.root) (trip_tuple c.in_ok-trip.trip) ≡ false = sym (c.has_triple.ensures ∙ ap (λ u. has (root_set u i.root) (trip_tuple c.in_ok-trip.trip)) c.tables.ensures.same) ∙ c.if-has_triple.false in
     let room : set.len (graph s) + set.len (staged_graph s b) < most_triples =
-        subst (λ x. set.len (graph x) + set.len (staged_graph x b) < most_triples) (sym c.self.view_is) (subst (λ y. set.len (graph c.args.self.now) + set.len (staged_graph c.args.self.now y) < most_triples) (sym c.staged.view_is) c.requires.room) in
+    subst (λ x. set.len (graph x) + set.len (staged_graph x b) < most_triples) (sym c.self.view_is) (subst (λ y. set.len (graph c.args.self.now) + set.len (staged_graph c.args.self.now y) < most_triples) (sym c.staged.view_is) c.requires.room) in
     subst (λ T. Fits (record { dict = e; tables = i.ctx; root = i.root; max = i.max }) (record { triples = T; added = numbers more })) (sym c.in_default.ensures.ok)
     (fits_staged i.dict i.ctx i.root i.max b c.self.invariant f noted more refl e grows t c.in_ok-trip.trip c.in_ok-trip.ensures.ids c.in_ok-trip.ensures.terms c.requires.proper absent room)
 
@@ -169,10 +169,9 @@ returns-clause-staged g c =
     let G = graph_of i.dict (root_set i.ctx i.root) in
     let S = graph_of i.dict b.triples in
     let not_there : set.contains G t ≡ false =
-        ap (λ K. set.contains K t) (sym (grown_graph i.dict i.ctx i.root i.max b c.self.invariant f noted more refl e grows))
-        ∙ sym (found_triple e t c.in_ok-trip.trip c.in_ok-trip.ensures.ids c.len-2.ensures.one (root_set i.ctx i.root) (grown_sound i.dict i.ctx i.root i.max b c.self.invariant f noted more refl e grows).known) ∙ absent in
+    ap (λ K. set.contains K t) (sym (grown_graph i.dict i.ctx i.root i.max b c.self.invariant f noted more refl e grows))
+    ∙ sym (found_triple e t c.in_ok-trip.trip c.in_ok-trip.ensures.ids c.len-2.ensures.one (root_set i.ctx i.root) (grown_sound i.dict i.ctx i.root i.max b c.self.invariant f noted more refl e grows).known) ∙ absent in
     ap (graph_of e) c.in_default.ensures.ok
     ∙ staged_graph_is i.dict i.ctx i.root i.max b c.self.invariant f noted more refl e grows t c.in_ok-trip.trip c.in_ok-trip.ensures.ids c.in_ok-trip.ensures.terms
     ∙ sym (ap (λ x. if x then S else set.insert S t) not_there)
     ∙ (λ j. if set.contains (graph (c.self.view_is j)) t then staged_graph (c.self.view_is j) (c.staged.view_is j) else set.insert (staged_graph (c.self.view_is j) (c.staged.view_is j)) t)
-

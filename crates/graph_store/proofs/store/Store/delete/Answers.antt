@@ -1,4 +1,4 @@
-use Rattle.std.proofs.Common.{◌≡◌, ◌∙◌, ◌+◌, ◌≤◌, ℕ, true, false, length, sym, ap, subst, arith, rules}
+use Rattle.std.proofs.Common.{◌≡◌, ◌∙◌, ℕ, true, false, length, sym, ap, subst, arith, rules}
 use Rattle.std.specs.FinSet as set
 use Rattle.hypertrie_model.specs.IdSets.{IdSet}
 use Rattle.hypertrie_model.specs.Changes.{IsChange}
@@ -56,8 +56,8 @@ invariant_of-self-2 g c =
     let all : (id : ℕ) → IsUsed B id → is_among ids id ≡ true = λ id used. c.in_ok-ids.ensures.used id (subst (λ T. IsUsed T id) (sym whole) used) in
     let left : root_set u q ≡ set.difference (root_set i.ctx i.root) B = c.in_ok-take_out.ensures.set ∙ ap (set.difference (root_set i.ctx i.root)) (ap (set_of_entries trip_tuple) c.deref-2.ensures.value ∙ c.in_ok-batch.ensures.set) in
     let forgets : Forgets i.dict new ids (IsUsed (set.difference (root_set i.ctx i.root) B)) =
-        subst (λ K. Forgets i.dict new ids (IsUsed K)) (ap (λ t. root_set t q) c.tables.ensures.same ∙ left)
-        (subst (λ l. Forgets i.dict new (numbers l) (IsUsed (root_set c.tables.result.now q))) c.deref-3.ensures.value c.forget.ensures) in
+    subst (λ K. Forgets i.dict new ids (IsUsed K)) (ap (λ t. root_set t q) c.tables.ensures.same ∙ left)
+    (subst (λ l. Forgets i.dict new (numbers l) (IsUsed (root_set c.tables.result.now q))) c.deref-3.ensures.value c.forget.ensures) in
     deleted_sound i.dict i.ctx i.root i.max B c.self.invariant c.len.ensures.one settled there ids all new forgets u q c.take_out.ensures.only left
 
 pub returns-clause-graph : goal.returns-clause-graph
@@ -74,8 +74,8 @@ returns-clause-graph g c =
     let all : (id : ℕ) → IsUsed B id → is_among ids id ≡ true = λ id used. c.in_ok-ids.ensures.used id (subst (λ T. IsUsed T id) (sym whole) used) in
     let left : root_set u q ≡ set.difference (root_set i.ctx i.root) B = c.in_ok-take_out.ensures.set ∙ ap (set.difference (root_set i.ctx i.root)) (ap (set_of_entries trip_tuple) c.deref-2.ensures.value ∙ c.in_ok-batch.ensures.set) in
     let forgets : Forgets i.dict new ids (IsUsed (set.difference (root_set i.ctx i.root) B)) =
-        subst (λ K. Forgets i.dict new ids (IsUsed K)) (ap (λ t. root_set t q) c.tables.ensures.same ∙ left)
-        (subst (λ l. Forgets i.dict new (numbers l) (IsUsed (root_set c.tables.result.now q))) c.deref-3.ensures.value c.forget.ensures) in
+    subst (λ K. Forgets i.dict new ids (IsUsed K)) (ap (λ t. root_set t q) c.tables.ensures.same ∙ left)
+    (subst (λ l. Forgets i.dict new (numbers l) (IsUsed (root_set c.tables.result.now q))) c.deref-3.ensures.value c.forget.ensures) in
     deleted_graph i.dict i.ctx i.root i.max B c.self.invariant c.len.ensures.one settled there ids all new forgets u q c.take_out.ensures.only left
     ∙ (λ j. set.difference (graph (c.self.view_is j)) (marked_graph (c.self.view_is j) (c.taken.view_is j)))
 
@@ -103,8 +103,8 @@ returns-clause-now g c =
     let all : (id : ℕ) → IsUsed B id → is_among ids id ≡ true = λ id used. c.in_ok-ids.ensures.used id (subst (λ T. IsUsed T id) (sym whole) used) in
     let left : root_set u q ≡ set.difference (root_set i.ctx i.root) B = c.in_ok-take_out.ensures.set ∙ ap (set.difference (root_set i.ctx i.root)) (ap (set_of_entries trip_tuple) c.deref-2.ensures.value ∙ c.in_ok-batch.ensures.set) in
     let forgets : Forgets i.dict new ids (IsUsed (set.difference (root_set i.ctx i.root) B)) =
-        subst (λ K. Forgets i.dict new ids (IsUsed K)) (ap (λ t. root_set t q) c.tables.ensures.same ∙ left)
-        (subst (λ l. Forgets i.dict new (numbers l) (IsUsed (root_set c.tables.result.now q))) c.deref-3.ensures.value c.forget.ensures) in
+    subst (λ K. Forgets i.dict new ids (IsUsed K)) (ap (λ t. root_set t q) c.tables.ensures.same ∙ left)
+    (subst (λ l. Forgets i.dict new (numbers l) (IsUsed (root_set c.tables.result.now q))) c.deref-3.ensures.value c.forget.ensures) in
     c.count.ensures ∙ ap (λ t. set.len (root_set t q)) c.tables-2.ensures.same ∙ ap set.len left
     ∙ sym (len-graph_of i.dict c.len.ensures.one (set.difference (root_set i.ctx i.root) B) (known_difference i.dict (root_set i.ctx i.root) B c.self.invariant.known))
     ∙ ap set.len (rest_graph i.dict i.ctx i.root i.max B c.self.invariant c.len.ensures.one settled there)
@@ -124,8 +124,8 @@ returns-clause-settled g c =
     let all : (id : ℕ) → IsUsed B id → is_among ids id ≡ true = λ id used. c.in_ok-ids.ensures.used id (subst (λ T. IsUsed T id) (sym whole) used) in
     let left : root_set u q ≡ set.difference (root_set i.ctx i.root) B = c.in_ok-take_out.ensures.set ∙ ap (set.difference (root_set i.ctx i.root)) (ap (set_of_entries trip_tuple) c.deref-2.ensures.value ∙ c.in_ok-batch.ensures.set) in
     let forgets : Forgets i.dict new ids (IsUsed (set.difference (root_set i.ctx i.root) B)) =
-        subst (λ K. Forgets i.dict new ids (IsUsed K)) (ap (λ t. root_set t q) c.tables.ensures.same ∙ left)
-        (subst (λ l. Forgets i.dict new (numbers l) (IsUsed (root_set c.tables.result.now q))) c.deref-3.ensures.value c.forget.ensures) in
+    subst (λ K. Forgets i.dict new ids (IsUsed K)) (ap (λ t. root_set t q) c.tables.ensures.same ∙ left)
+    (subst (λ l. Forgets i.dict new (numbers l) (IsUsed (root_set c.tables.result.now q))) c.deref-3.ensures.value c.forget.ensures) in
     deleted_settled i.dict i.ctx i.root i.max B c.self.invariant c.len.ensures.one settled there ids all new forgets u q c.take_out.ensures.only left
 
 pub returns-clause-ticks : goal.returns-clause-ticks
@@ -137,4 +137,3 @@ returns-clause-ticks g c =
     let marked : set.len (marked_graph c.args.self.now c.args.taken) ≡ set.len B = sym (λ j. set.len (marked_graph (c.self.view_is j) (c.taken.view_is j))) ∙ len-graph_of i.dict c.len.ensures.one B (marked_known i.dict i.ctx i.root i.max B c.self.invariant c.len.ensures.one settled there) in
     let batch = ap set.len (ap (set_of_entries trip_tuple) c.deref-2.ensures.value ∙ c.in_ok-batch.ensures.set) in
     omega (arith, c.take_out.ensures.ticks, marked, batch)
-

@@ -1,11 +1,11 @@
-use Rattle.std.proofs.Common.{◌≡◌, ◌∙◌, ◌≤◌, ◌+◌, ℕ, sym, ap, subst, arith}
+use Rattle.std.proofs.Common.{◌≡◌, ◌∙◌, sym, ap, subst, arith}
 use Rattle.std.specs.FinSet as set
 use Rattle.trie_context.specs.Kept.{AreKept}
 use Rattle.trie_context.specs.Roots.{root_set}
 use Rattle.trie_view.specs.Places.{IsRootThere}
 use Rattle.graph_image.specs.Images.{graph_of, terms_of, HasExactly, without}
 use Rattle.graph_image.specs.ImageLaws.{len-graph_of}
-use Rattle.graph_store.specs.State.{State, IsSound, graph, most_triples}
+use Rattle.graph_store.specs.State.{State, IsSound, graph}
 use Rattle.graph_store.specs.Staging.{Staging, numbers, staged_graph, Fits}
 use Rattle.graph_store.proofs.RootLemmas.{root_there}
 use Rattle.graph_store.proofs.StagingLemmas.{fits_back, len-graph, len-staged, before_sound, before_settled, put_graph, put_sound, put_settled}

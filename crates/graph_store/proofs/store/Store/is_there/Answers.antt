@@ -37,9 +37,9 @@ returns-then-has_triple g c =
     let t = lent_triple c.args.triple in
     let S = graph_of i.dict c.staged.inside.trips in
     let in_graph : set.contains (graph_of i.dict H) t ≡ true =
-        sym (found_triple i.dict t c.in-Some.trip c.in-Some.ensures.some c.len.ensures.one H c.self.invariant.known)
-        ∙ sym (c.has_triple.ensures ∙ ap (λ u. has (root_set u i.root) (trip_tuple c.in-Some.trip)) c.tables.ensures.same)
-        ∙ c.if-has_triple.true in
+    sym (found_triple i.dict t c.in-Some.trip c.in-Some.ensures.some c.len.ensures.one H c.self.invariant.known)
+    ∙ sym (c.has_triple.ensures ∙ ap (λ u. has (root_set u i.root) (trip_tuple c.in-Some.trip)) c.tables.ensures.same)
+    ∙ c.if-has_triple.true in
     c.if-has_triple.true ∙ sym (ap (λ b. b || set.contains S t) in_graph)
     ∙ (λ j. set.contains (graph (c.self.view_is j)) t || set.contains (staged_graph (c.self.view_is j) (c.staged.view_is j)) t)
 
@@ -52,9 +52,9 @@ returns-else-has_triple g c =
     let S = graph_of i.dict trips in
     let known : AreKnown i.dict trips = subst (λ x. AreKnown x.dict trips) (sym c.self.view_is) (subst (λ b. AreKnown c.args.self.now.dict b.triples) (sym c.staged.view_is) c.requires.known) in
     let not_there : set.contains (graph_of i.dict H) t ≡ false =
-        sym (found_triple i.dict t c.in-Some.trip c.in-Some.ensures.some c.len.ensures.one H c.self.invariant.known)
-        ∙ sym (c.has_triple.ensures ∙ ap (λ u. has (root_set u i.root) (trip_tuple c.in-Some.trip)) c.tables.ensures.same)
-        ∙ c.if-has_triple.false in
+    sym (found_triple i.dict t c.in-Some.trip c.in-Some.ensures.some c.len.ensures.one H c.self.invariant.known)
+    ∙ sym (c.has_triple.ensures ∙ ap (λ u. has (root_set u i.root) (trip_tuple c.in-Some.trip)) c.tables.ensures.same)
+    ∙ c.if-has_triple.false in
     c.has.ensures ∙ found_triple i.dict t c.in-Some.trip c.in-Some.ensures.some c.len.ensures.one trips known
     ∙ sym (ap (λ b. b || set.contains S t) not_there)
     ∙ (λ j. set.contains (graph (c.self.view_is j)) t || set.contains (staged_graph (c.self.view_is j) (c.staged.view_is j)) t)

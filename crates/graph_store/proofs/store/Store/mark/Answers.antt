@@ -38,10 +38,10 @@ returns-in_ok-put-clause-marked g c =
     let t = lent_triple c.args.triple in
     let T = marked_graph c.args.self.now c.args.taken.now in
     let there : set.contains (graph c.args.self.now) t ≡ true =
-        ap (λ s. set.contains (graph s) t) (sym c.self.view_is)
-        ∙ sym (found_triple i.dict t c.in-Some.trip c.in-Some.ensures.some c.len.ensures.one H c.self.invariant.known)
-        ∙ sym (c.has_triple.ensures ∙ ap (λ u. has (root_set u i.root) (trip_tuple c.in-Some.trip)) c.tables.ensures.same)
-        ∙ c.if-has_triple.true in
+    ap (λ s. set.contains (graph s) t) (sym c.self.view_is)
+    ∙ sym (found_triple i.dict t c.in-Some.trip c.in-Some.ensures.some c.len.ensures.one H c.self.invariant.known)
+    ∙ sym (c.has_triple.ensures ∙ ap (λ u. has (root_set u i.root) (trip_tuple c.in-Some.trip)) c.tables.ensures.same)
+    ∙ c.if-has_triple.true in
     ap (λ s. graph_of s.dict c.put.new.self) (sym c.self.view_is)
     ∙ ap (graph_of i.dict) c.in_ok-put.ensures.ok
     ∙ graph_of-insert i.dict c.taken.inside.trips (trip_tuple c.in-Some.trip)
@@ -66,8 +66,8 @@ returns-else-has_triple-clause-marked g c =
     let t = lent_triple c.args.triple in
     let T = marked_graph c.args.self.now c.args.taken.now in
     let out : set.contains (graph c.args.self.now) t ≡ false =
-        ap (λ s. set.contains (graph s) t) (sym c.self.view_is)
-        ∙ sym (found_triple i.dict t c.in-Some.trip c.in-Some.ensures.some c.len.ensures.one (root_set i.ctx i.root) c.self.invariant.known)
-        ∙ sym (c.has_triple.ensures ∙ ap (λ u. has (root_set u i.root) (trip_tuple c.in-Some.trip)) c.tables.ensures.same)
-        ∙ c.if-has_triple.false in
+    ap (λ s. set.contains (graph s) t) (sym c.self.view_is)
+    ∙ sym (found_triple i.dict t c.in-Some.trip c.in-Some.ensures.some c.len.ensures.one (root_set i.ctx i.root) c.self.invariant.known)
+    ∙ sym (c.has_triple.ensures ∙ ap (λ u. has (root_set u i.root) (trip_tuple c.in-Some.trip)) c.tables.ensures.same)
+    ∙ c.if-has_triple.false in
     sym (ap (λ x. if x then set.insert T t else T) out)

@@ -1,11 +1,5 @@
-use Rattle.std.proofs.Common.{◌≡◌, ◌∙◌, ◌≤◌, ℕ, List, false, true, sym, ap, subst, arith}
-use Rattle.std.specs.FinSet as set
-use Rattle.std.specs.FinMap as map
-use Rattle.rdf_model.specs.Terms.{Triple}
-use Rattle.term_dict.specs.Dict.{Terms}
-use Rattle.trie_context.specs.declared.tables.Tables.{Tables}
+use Rattle.std.proofs.Common.{sym, subst}
 use Rattle.trie_context.specs.declared.root.Root.TheVariants.{Empty}
-use Rattle.trie_context.specs.Rows.{no_tables}
 use Rattle.graph_image.specs.ImageLaws.{graph_of-empty}
 use Rattle.graph_store.specs.State.{IsSound}
 use Rattle.graph_store.proofs.EmptyLemmas.{empty_sound, empty_settled}

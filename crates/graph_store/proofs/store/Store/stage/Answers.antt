@@ -1,9 +1,9 @@
-use Rattle.std.proofs.Common.{◌≡◌, ◌≤◌, ◌+◌, ◌<◌, ◌∙◌, sym, ap, arith, rules}
+use Rattle.std.proofs.Common.{◌≡◌, ◌≤◌, ◌+◌, ◌∙◌, sym, ap, arith, rules}
 use Rattle.std.specs.FinSet as set
 use Rattle.ntriples.specs.Lent.{lent_triple}
-use Rattle.graph_store.specs.State.{graph, most_triples}
+use Rattle.graph_store.specs.State.{graph}
 use Rattle.graph_store.specs.Staging.{staged_graph}
-use Rattle.graph_store.proofs.FullLemmas.{there_already, new_full, there_not_full, room_not_full}
+use Rattle.graph_store.proofs.FullLemmas.{there_already, new_full}
 use Rattle.graph_store.proofs.store.Store.stage.Goals as goal
 
 pub overflow_add-now : goal.overflow_add-now

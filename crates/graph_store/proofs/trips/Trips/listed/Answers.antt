@@ -1,6 +1,5 @@
 use Rattle.std.proofs.Common.{◌≡◌, sym, ◌∙◌, ap, subst}
 use Rattle.std.proofs.lemmas.Map.Iter.{iter_end}
-use Rattle.std.specs.FinSet as set
 use Rattle.graph_image.specs.ImageLaws.{tuples_total, tuples_exact}
 use Rattle.trie_depth.specs.Tuples.{trip_tuple}
 use Rattle.trie_update.specs.Batches.{set_of_entries, IsOnce}

@@ -1,2 +1,4 @@
 pub mod WalkLemmas
+pub mod OperandLemmas
+pub mod MapLemmas
 pub mod DumpLemmas

@@ -1,6 +1,6 @@
 -- A walk over the keys of a finite map of sets.
-use Rattle.std.specs.Prelude.{◌≡◌, ℕ, ◌+◌, ◌<◌, ◌≤◌, Bool, true, List, [], ◌∷◌, Option, None, Some}
-use Rattle.std.proofs.Common.{sym, ◌∙◌, ap, arith}
+use Rattle.std.specs.Prelude.{◌≡◌, ℕ, ◌+◌, ◌<◌, ◌≤◌, Bool, true, List, ◌∷◌, None, Some}
+use Rattle.std.proofs.Common.{sym, ◌∙◌, ap}
 use Rattle.std.proofs.lemmas.Cmp.{nat_cmp_total as total}
 use Rattle.std.specs.FinMap as map
 use Rattle.std.specs.FinMap.{FinMap, nat_cmp-IsAntisymmetric as exact}
@@ -8,7 +8,6 @@ use Rattle.std.specs.List.{list_all}
 use Rattle.std.specs.Ordering.{nat_cmp}
 use Rattle.hypertrie_model.specs.IdSets.{IdSet}
 use Rattle.hypertrie_model.specs.Sets.{has, empty}
-use Rattle.hypertrie_model.specs.SetLaws.{and_both}
 use Rattle.hypertrie_model.specs.Slices.{slice}
 use Rattle.hypertrie_model.specs.Unions.{union_over, has_under}
 use Rattle.hypertrie_model.specs.UnionLaws.{has-union_over, has-union_over_nil}

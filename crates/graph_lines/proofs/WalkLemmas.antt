@@ -1,13 +1,10 @@
 -- The part of a set that a walk over its first keys has seen.
-use Rattle.std.specs.Prelude.{◌≡◌, ◌≢◌, ℕ, suc, ◌+◌, ◌-◌, ◌<◌, ◌≤◌, ◌^◌, ◌&&◌, ◌||◌, Bool, true, false, nat_lt, List, [], ◌∷◌, ◌++◌, length, refl, codes, Some, unwrap_or}
+use Rattle.std.specs.Prelude.{◌≡◌, ◌≢◌, ℕ, ◌+◌, ◌<◌, ◌≤◌, ◌&&◌, ◌||◌, Bool, true, false, nat_lt, List, [], ◌∷◌, ◌++◌, refl}
 use Rattle.std.specs.Prelude.{map as each}
-use Rattle.std.specs.FinMap as map
 use Rattle.std.proofs.Common.{sym, ◌∙◌, ap, subst, arith, append_assoc}
-use Rattle.std.specs.List.{list_all}
 use Rattle.std.proofs.lemmas.Bool.Decides.{nat_tests}
 use Rattle.std.proofs.lemmas.Cmp.{nat_cmp_total as total, lists_total}
 use Rattle.std.proofs.lemmas.List.{length-map, length-append, append-nil, map-append}
-use Rattle.std.proofs.lemmas.List.Elements.{All-head}
 use Rattle.std.specs.Cmp.Lexicographic.{slice_cmp}
 use Rattle.std.specs.FinMap.{nat_cmp-IsAntisymmetric as exact}
 use Rattle.std.specs.FinSet.{slice_cmp-IsAntisymmetric}
@@ -18,20 +15,16 @@ use Rattle.hypertrie_model.specs.IdSets.{IdSet}
 use Rattle.hypertrie_model.specs.Sets.{has, empty, single, HasDepth}
 use Rattle.hypertrie_model.specs.SetLaws.{same_sets, same_test, and_both, or_cases, or_right, tied-is, tied-itself, has-single, len-single}
 use Rattle.hypertrie_model.specs.SetInduction.{len-union_disjoint}
-use Rattle.hypertrie_model.specs.Slices.{slice, slice_at_mask}
+use Rattle.hypertrie_model.specs.Slices.{slice}
 use Rattle.hypertrie_model.specs.SliceLaws.{has-slice}
-use Rattle.hypertrie_model.specs.MaskLaws.{slice_at_mask-first, slice_at_no_mask}
 use Rattle.hypertrie_model.specs.Members.{contains-kept, no_members}
-use Rattle.hypertrie_model.specs.Listings.{set_of, set_of-append}
+use Rattle.hypertrie_model.specs.Listings.{set_of-append}
 use Rattle.hypertrie_model.specs.UnionSizes.{prefixed, has-prefixed, has-prefixed_nil, len-prefixed}
-use Rattle.trie_depth.specs.Operands.{Admits, IsIdTuple}
 use Rattle.set_image.specs.Images.{image}
 use Rattle.set_image.specs.ImageLaws.{image-from_list}
-use Rattle.tuple_image.specs.TupleImages.{IsOver}
-use Rattle.rdf_model.specs.Terms.{Text, Term, Iri}
-use Rattle.rdf_model.specs.Texts.{canon}
-use Rattle.term_dict.specs.Dict.{Terms}
-use Rattle.graph_lines.specs.Walks.{AreMembersOf, AddsTexts}
+use Rattle.rdf_model.specs.Terms.{Text}
+use Rattle.graph_shape.specs.Sorting.{AreMembersOf}
+use Rattle.graph_lines.specs.Walks.{AddsTexts}
 
 -- whether the first key of the tuple is below
 abbrev pub starts_below : ℕ → List ℕ → Bool
@@ -78,6 +71,21 @@ members_nil H deep some =
 image_prefixed : (k : ℕ) (S : IdSet) → image (slice_cmp nat_cmp) (λ t. k ∷ t) S ≡ prefixed nat_cmp k S
 unfolding image
 image_prefixed k S = refl
+
+-- the members of a slice, under its key
+pub members_under : (k : ℕ) (S : IdSet) (rest : List (List ℕ)) → AreMembersOf S rest → AreMembersOf (prefixed nat_cmp k S) (each (λ t. k ∷ t) rest)
+members_under k S rest members = record {
+  all = sym (image-from_list (lists_total total) (slice_cmp-IsAntisymmetric exact) (lists_total total) (slice_cmp-IsAntisymmetric exact) (λ t. k ∷ t) rest)
+      ∙ ap (image (slice_cmp nat_cmp) (λ t. k ∷ t)) members.all ∙ image_prefixed k S;
+  once = length-map rest (λ t. k ∷ t) ∙ members.once ∙ sym (len-prefixed total exact k S);
+}
+
+-- those of two sets that have none in common
+pub members_union : (H K : IdSet) (xs ys : List (List ℕ)) → ((t : List ℕ) → has K t ≡ true → has H t ≡ false) → AreMembersOf H xs → AreMembersOf K ys → AreMembersOf (set.union H K) (xs ++ ys)
+members_union H K xs ys apart first second = record {
+  all = set_of-append total exact xs ys ∙ (λ i. set.union (first.all i) (second.all i));
+  once = length-append xs ys ∙ (λ i. first.once i + second.once i) ∙ sym (len-union_disjoint (lists_total total) (slice_cmp-IsAntisymmetric exact) H K apart);
+}
 
 -- ---- key after key
 
@@ -159,20 +167,11 @@ module _ (H : IdSet) (nil : has H [] ≡ false) where
           not_below is = grind (arith, nat_tests)
 
     -- the members seen, and those of the slice under the key
-    pub members_next : (seen rest : List (List ℕ)) → AreMembersOf (part H from) seen → AreMembersOf (slice nat_cmp H 0 k) rest → AreMembersOf (part H (k + 1)) (seen ++ each (λ t. k ∷ t) rest)
+    members_next : (seen rest : List (List ℕ)) → AreMembersOf (part H from) seen → AreMembersOf (slice nat_cmp H 0 k) rest → AreMembersOf (part H (k + 1)) (seen ++ each (λ t. k ∷ t) rest)
     members_next seen rest old new =
         let S = slice nat_cmp H 0 k in
-        let under : set_of nat_cmp (each (λ t. k ∷ t) rest) ≡ prefixed nat_cmp k S =
-        sym (image-from_list (lists_total total) (slice_cmp-IsAntisymmetric exact) (lists_total total) (slice_cmp-IsAntisymmetric exact) (λ t. k ∷ t) rest)
-        ∙ ap (image (slice_cmp nat_cmp) (λ t. k ∷ t)) new.all ∙ image_prefixed k S in
-        let sizes : set.len (part H (k + 1)) ≡ set.len (part H from) + set.len S =
-        ap set.len part_next ∙ len-union_disjoint (lists_total total) (slice_cmp-IsAntisymmetric exact) (part H from) (prefixed nat_cmp k S) apart ∙ ap (λ n. set.len (part H from) + n) (len-prefixed total exact k S) in
-        let fresh : length rest ≡ set.len S = new.once in
-        let seen_once = old.once in
-        record {
-          all = set_of-append total exact seen (each (λ t. k ∷ t) rest) ∙ (λ i. set.union (old.all i) (under i)) ∙ sym part_next;
-          once = length-append seen (each (λ t. k ∷ t) rest) ∙ ap (λ n. length seen + n) (length-map rest (λ t. k ∷ t)) ∙ omega arith;
-        }
+        let both = members_union (part H from) (prefixed nat_cmp k S) seen (each (λ t. k ∷ t) rest) apart old (members_under k S rest new) in
+        record { all = both.all ∙ sym part_next; once = both.once ∙ ap set.len (sym part_next) }
 
 -- ---- the texts of what was seen
 
@@ -202,5 +201,5 @@ module _ (text under : List ℕ → Text) (k : ℕ) (same : (t : List ℕ) → u
     seen.0 ++ each (λ t. k ∷ t) rest.0,
     members_next H nil from k high skipped seen.0 rest.0 seen.1 (subst (λ T. AreMembersOf T rest.0) is rest.1),
     rest.2 ∙ (λ i. seen.2 i ++ same_texts rest.0 i) ∙ append_assoc old (each text seen.0) (each text (each (λ t. k ∷ t) rest.0))
-    ∙ ap (λ ls. old ++ ls) (sym (map-append text seen.0 (each (λ t. k ∷ t) rest.0))),
+        ∙ ap (λ ls. old ++ ls) (sym (map-append text seen.0 (each (λ t. k ∷ t) rest.0))),
   )

@@ -1,5 +1,5 @@
 -- Tuples of Ids as texts, and the texts of a set's members in a list.
-use Rattle.std.specs.Prelude.{◌≡◌, ℕ, Bool, is_some, List, [], ◌∷◌, ◌++◌, length, map, codes, Option, None, Some}
+use Rattle.std.specs.Prelude.{◌≡◌, ℕ, Bool, is_some, List, [], ◌∷◌, ◌++◌, map, codes, Option, None, Some}
 use Rattle.std.specs.Ordering.{nat_cmp}
 use Rattle.std.specs.declared.cmp.Ordering.{Ordering}
 use Rattle.std.specs.FinMap as finite
@@ -16,13 +16,9 @@ use Rattle.trie_context.specs.declared.tables.Tables.{Tables}
 use Rattle.trie_context.specs.Rows.{row_of, set_of}
 use Rattle.trie_context.specs.Holds.{count_of}
 use Rattle.tuple_image.specs.TupleImages.{tuple_image}
+use Rattle.graph_shape.specs.Sorting.{AreMembersOf}
 use Rattle.graph_shape.specs.GraphShapes.{GraphRow, member_text, row_line}
 use Rattle.graph_image.specs.Images.{term_at}
-
--- the members of a set, each once, in some order
-pub record AreMembersOf {K : Type 0} {R : K → K → Ordering} (H : set.FinSet R) (members : List K) : Type 0 where
-  pub all : set.from_list members ≡ H
-  pub once : length members ≡ set.len H
 
 -- the texts are those that were there, and behind them that of each member of the set
 abbrev pub AddsTexts : {K : Type 0} {R : K → K → Ordering} → (K → Text) → set.FinSet R → List Text → List Text → Type 0

@@ -1,4 +1,4 @@
-use Rattle.std.proofs.Common.{rules, ◌≡◌, ℕ, ◌+◌, ◌^◌, ◌≤◌, ◌++◌, [], ◌∷◌, codes, append-nil, is_some, arith, sym, subst, ap, ◌∙◌}
+use Rattle.std.proofs.Common.{rules, ◌≡◌, ◌+◌, ◌^◌, ◌≤◌, ◌++◌, [], ◌∷◌, codes, append-nil, is_some, arith, sym, subst, ap, ◌∙◌}
 use Rattle.std.specs.Ordering.{nat_cmp}
 use Rattle.hypertrie_model.specs.Sets.{HasDepth}
 use Rattle.hypertrie_model.specs.Slices.{slice_at_mask}

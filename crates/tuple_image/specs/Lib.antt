@@ -1,0 +1,5 @@
+pub mod TupleImages
+pub mod TupleLaws
+pub mod SliceImages
+pub mod ShapeImages
+pub mod RowImages

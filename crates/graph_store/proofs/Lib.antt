@@ -10,3 +10,4 @@ pub mod TermsLemmas
 pub mod StagingLemmas
 pub mod FullLemmas
 pub mod ForgetLemmas
+pub mod StandsLemmas

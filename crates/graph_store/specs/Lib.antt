@@ -1,5 +1,6 @@
 pub mod Proper
 pub mod State
+pub mod Stands
 pub mod Staging
 pub mod Noted
 pub mod Forgotten

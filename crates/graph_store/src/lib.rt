@@ -7,12 +7,14 @@
 
 mod ids;
 mod lookup;
+mod report;
 mod staged;
 mod store;
 mod taken;
 mod terms;
 mod trips;
 
+pub use report::Stats;
 pub use staged::{StageFault, Staged};
 pub use store::{Changed, Store};
 pub use taken::Taken;

@@ -3,8 +3,10 @@ ghost use Rattle.std.specs.Prelude.{◌≡◌, ◌≤◌};
 ghost use Rattle.std.specs.FinMap as map;
 ghost use Rattle.std.specs.FinSet as set;
 ghost use Rattle.trie_context.specs.Rows.{no_tables};
+ghost use Rattle.trie_context.specs.Kept.{AreKept};
 ghost use Rattle.graph_store.specs.Proper.{AreProper};
 ghost use Rattle.graph_store.specs.State.{graph, most_triples, IsSettled};
+ghost use Rattle.graph_store.specs.Stands.{Stands};
 
 use crate::lookup::count;
 use std::alloc::Global;
@@ -72,6 +74,8 @@ impl<M: Mix> Store<M> {
         ensures few { result ≤ most_triples }
         ensures limit { self.now.max ≤ most_triples }
         ensures proper { AreProper (graph self.now) }
+        ensures kept { AreKept M.mixed self.now.tables }
+        ensures stands { Stands self.now }
     {
         // These calls tell the proof that the dictionary is one to one, and that the tables are kept.
         self.dict.len();

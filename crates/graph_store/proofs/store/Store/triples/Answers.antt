@@ -1,3 +1,5 @@
+use Rattle.graph_store.specs.Stands.{Stands}
+use Rattle.graph_store.proofs.StandsLemmas.{stands}
 use Rattle.std.proofs.Common.{◌∙◌, sym, ap, subst}
 use Rattle.std.specs.FinSet as set
 use Rattle.trie_context.specs.Kept.{AreKept}
@@ -21,3 +23,6 @@ returns-clause-value g c =
     c.count.ensures ∙ ap (λ u. set.len (root_set u r)) c.tables.ensures.same
     ∙ sym (len-graph_of c.self.inside.dict c.len.ensures.one (root_set t r) c.self.invariant.known)
     ∙ ap (λ s. set.len (graph s)) c.self.view_is
+
+pub returns-clause-stands : goal.returns-clause-stands
+returns-clause-stands g c = subst Stands c.self.view_is (stands g.M.Mix.mixed (record { dict = c.self.inside.dict; tables = c.self.inside.ctx; root = c.self.inside.root; max = c.self.inside.max }) c.tables.ensures.kept c.self.invariant c.len.ensures.one)

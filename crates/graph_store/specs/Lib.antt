@@ -4,3 +4,5 @@ pub mod Stands
 pub mod Staging
 pub mod Noted
 pub mod Forgotten
+pub mod StagingLaws
+pub mod ProperLaws

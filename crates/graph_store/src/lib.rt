@@ -12,6 +12,8 @@ mod staged;
 mod store;
 mod taken;
 mod terms;
+#[cfg(test)]
+mod tests;
 mod trips;
 
 pub use report::Stats;

@@ -1,5 +1,5 @@
 -- The tables of a store are the shape of its graph, and so have as many rows.
-use Rattle.std.proofs.Common.{◌≡◌, ◌∙◌, ◌⊎◌, ℕ, suc, ◌≤◌, ◌<◌, Bool, true, false, cond, nat_le, List, [], ◌∷◌, get_or, Option, None, Some, is_some, refl, sym, ap, subst, arith}
+use Rattle.std.proofs.Common.{◌≡◌, ◌∙◌, ℕ, ◌≤◌, ◌<◌, Bool, true, false, cond, nat_le, List, [], get_or, refl, sym, ap, subst, arith}
 use Rattle.std.proofs.lemmas.Bool.Decides.{nat_tests}
 use Rattle.std.proofs.lemmas.Cmp.{lists_total}
 use Rattle.std.specs.Ordering.{nat_cmp}
@@ -9,28 +9,24 @@ use Rattle.std.specs.FinMap as map
 use Rattle.std.specs.FinMap.{nat_cmp-IsAntisymmetric as exact}
 use Rattle.std.specs.FinSet.{FinSet, slice_cmp-IsAntisymmetric}
 use Rattle.std.specs.FinSet as set
-use Rattle.hypertrie_model.specs.IdSets.{IdSet}
 use Rattle.hypertrie_model.specs.Sets.{TupleSet}
 use Rattle.hypertrie_model.specs.SetLaws.{len-single}
 use Rattle.hypertrie_model.specs.Shapes.{set_cmp, InShape, two, one, count2, count1}
 use Rattle.hypertrie_model.specs.ShapeRows.{IsRowOf, in_shape, shape_in}
-use Rattle.hypertrie_model.specs.ShapeLaws.{sets_total, sets_exact, le_of_test, test_of_le}
+use Rattle.hypertrie_model.specs.ShapeLaws.{sets_total, sets_exact, le_of_test}
 use Rattle.rdf_model.specs.Terms.{Term, Iri, Triple}
-use Rattle.rdf_model.specs.Graph.{Graph, term_cmp, triple_cmp, terms_total, exact_terms, triples_total, exact_triples}
-use Rattle.term_dict.specs.Dict.{Terms, IsOneToOne}
+use Rattle.rdf_model.specs.Graph.{Graph, term_cmp, terms_total, exact_terms, triples_total, exact_triples}
+use Rattle.term_dict.specs.Dict.{IsOneToOne}
 use Rattle.set_image.specs.OneToOneLaws.{len-image}
 use Rattle.tuple_image.specs.TupleImages.{tuple_image, ReadsShape}
 use Rattle.tuple_image.specs.RowImages.{reads_shape}
 use Rattle.graph_shape.specs.GraphShapes.{tuple_of, tuples_of, rows_in, figures_of}
 use Rattle.graph_shape.specs.GraphShapes as shape
-use Rattle.graph_image.specs.Images.{term_at, graph_of, AreKnown, terms_of}
+use Rattle.graph_image.specs.Images.{term_at, terms_of}
 use Rattle.graph_image.specs.ImageLaws.{len-graph_of}
 use Rattle.graph_image.specs.TermLaws.{len-names}
-use Rattle.node_table.specs.Table.{Row}
-use Rattle.trie_node.specs.declared.node.Node.{Node}
 use Rattle.trie_context.specs.declared.root.Root.{Root}
 use Rattle.trie_context.specs.declared.root.Root.TheVariants.{Empty, One, Many}
-use Rattle.trie_context.specs.declared.tables.Tables.{Tables}
 use Rattle.trie_context.specs.Rows.{rows_at, row_of, set_of}
 use Rattle.trie_context.specs.RowLaws.{row_there}
 use Rattle.trie_context.specs.Kept.{AreKept}
@@ -42,7 +38,7 @@ use Rattle.graph_lines.specs.Walks.{has_id}
 use Rattle.graph_lines.proofs.DumpLemmas.{known_ids}
 use Rattle.graph_lines.proofs.RowLemmas.{lone_ids, tuples_read}
 use Rattle.graph_store.specs.State.{State, graph, triples_of, IsSound}
-use Rattle.graph_store.specs.Stands.{row_tuples, HasRow, IsMany, Stands}
+use Rattle.graph_store.specs.Stands.{row_tuples, IsMany, Stands}
 use Rattle.graph_store.proofs.RootLemmas.{root_held}
 
 module _ (mixed : ℕ → ℕ → ℕ → ℕ → ℕ) (s : State) (kept : AreKept mixed s.tables) (sound : IsSound s.dict s.tables s.root s.max) (lone : IsOneToOne s.dict) where

@@ -1,13 +1,13 @@
 -- What a line of N-Triples says is a proper triple.
-use Rattle.std.specs.Prelude.{◌≡◌, ◌<◌, true, List, [], ◌∷◌, ◌++◌, Option, None, Some, length, refl}
+use Rattle.std.specs.Prelude.{◌≡◌, true, [], ◌∷◌, ◌++◌, Option, None, Some, refl}
 use Rattle.std.proofs.Common.{inl, inr, arith}
 use Rattle.std.specs.List.{AllByRecursion}
 use Rattle.rdf_model.specs.Terms.{Text, Kind, Typed, Tagged, Term, Iri, Blank, Literal, Triple}
 use Rattle.ntriples_model.specs.Characters.{is_letter_or_digit}
-use Rattle.ntriples_model.specs.Line.{said, scoped, xsd_string, IsLine, IsForm, nothing, triple, IsSubject, iri_node, blank_node, IsPredicate, iri, IsObject, node, literal, IsLiteral, string, IsKind, plain, typed, tagged}
+use Rattle.ntriples_model.specs.Line.{said, scoped, xsd_string, IsForm, nothing, triple, IsSubject, iri_node, blank_node, IsPredicate, iri, IsObject, node, literal, IsLiteral, string, IsKind, plain, typed, tagged}
 use Rattle.ntriples_model.specs.LineLaw.{SaysAsProductions}
-use Rattle.ntriples_model.specs.Terminals.{IsIriRef, IsStringLiteral, IsBlankNodeLabel}
-use Rattle.ntriples_model.specs.TermText.{IsProper, TextsStand, IsTermText}
+use Rattle.ntriples_model.specs.Terminals.{IsStringLiteral, IsBlankNodeLabel}
+use Rattle.ntriples_model.specs.TermText.{IsProper, TextsStand}
 use Rattle.graph_store.specs.Proper as proper
 use Rattle.graph_store.specs.Proper.{IsProperTriple}
 

@@ -1,17 +1,15 @@
 -- Nothing staged fits a settled store, and nothing is marked in it.
-use Rattle.std.specs.Prelude.{◌≡◌, ℕ, ◌≤◌, ◌||◌, not, Bool, true, false, refl, [], ◌∷◌}
-use Rattle.std.proofs.Common.{sym, ◌∙◌, ap, subst, arith, ◌+◌}
+use Rattle.std.specs.Prelude.{◌≡◌, ◌≤◌, not, Bool, true, false, refl}
+use Rattle.std.proofs.Common.{sym, ◌∙◌, ap, subst, arith}
 use Rattle.std.specs.Ordering.{nat_cmp}
 use Rattle.std.specs.Cmp.Lexicographic.{slice_cmp}
-use Rattle.std.specs.FinMap as map
 use Rattle.std.specs.FinSet as set
 use Rattle.hypertrie_model.specs.SetInduction.{union_empty}
-use Rattle.rdf_model.specs.Terms.{Term}
-use Rattle.rdf_model.specs.Graph.{Graph, triple_cmp, triples_total, exact_triples}
-use Rattle.graph_image.specs.Images.{graph_of, terms_of, HasExactly}
+use Rattle.rdf_model.specs.Graph.{triple_cmp, triples_total, exact_triples}
+use Rattle.graph_image.specs.Images.{terms_of, HasExactly}
 use Rattle.graph_image.specs.ImageLaws.{graph_of-empty}
 use Rattle.graph_image.specs.DictLaws.{without-none}
-use Rattle.graph_store.specs.State.{State, graph, triples_of, IsSettled, most_triples}
+use Rattle.graph_store.specs.State.{State, graph, IsSettled, most_triples}
 use Rattle.graph_store.specs.Staging.{nothing_staged, staged_graph, Fits, before, AreMarked}
 
 nothing_there : (b : Bool) → b ≡ false → b ≡ true → ⊥

@@ -1,7 +1,7 @@
 //! A store that is filled, refused, emptied and read, with the figures and lines that it tells.
 ghost use Rattle.std.specs.Prelude.{◌≡◌, ◌<◌, ◌≤◌, length};
 ghost use Rattle.graph_store.specs.State.{IsSettled};
-ghost use Rattle.graph_store.specs.Staging.{Fits};
+ghost use Rattle.graph_store.specs.Staging.{Fits, AreMarked};
 
 use super::*;
 use ntriples::read_line;
@@ -74,7 +74,23 @@ fn put<M: Mix, W: Ledger, V: Ledger>(
     }
 }
 
-/// Takes out what a line says.
+/// Marks the triple that a line says.
+fn mark_line<M: Mix>(
+    store: &Store<M>,
+    taken: &mut Taken,
+    line: &[u8],
+    scratch: &mut Scratch,
+) -> Result<(), Memory>
+    requires { length line.now ≤ 1048576 }
+    ensures { AreMarked store.now taken.old → AreMarked store.now taken.new }
+{
+    match read_line(line, "", scratch) {
+        Ok(Some(triple)) => store.mark(taken, triple),
+        Ok(None) | Err(_) => Ok(()),
+    }
+}
+
+/// Takes out what a line says, which is marked twice.
 fn take_out<M: Mix, W: Ledger, V: Ledger>(
     alloc: Global,
     store: &mut Store<M>,
@@ -88,10 +104,8 @@ fn take_out<M: Mix, W: Ledger, V: Ledger>(
 {
     let mut scratch = Scratch::new(alloc)?;
     let mut taken = Taken::new(alloc);
-    if let Ok(Some(triple)) = read_line(line, "", &mut scratch) {
-        store.mark(&mut taken, triple)?;
-        store.mark(&mut taken, triple)?;
-    }
+    mark_line(store, &mut taken, line, &mut scratch)?;
+    mark_line(store, &mut taken, line, &mut scratch)?;
     store.delete(alloc, taken, interns, retains)
 }
 

@@ -21,11 +21,3 @@ there_already G S t e = by (set.contains G t) e where
 module _ (s : State) (b : Staging) (t : Triple) where
   pub new_full : (set.contains (graph s) t || set.contains (staged_graph s b) t) ≡ false → s.max ≤ set.len (graph s) + set.len (staged_graph s b) → IsFull s b t
   new_full e most = let n = none_of_both (set.contains (graph s) t) (set.contains (staged_graph s b) t) e in inr (n.0, n.1, most)
-
-  pub there_not_full : set.len (graph s) ≤ s.max → (set.contains (graph s) t || set.contains (staged_graph s b) t) ≡ true → IsFull s b t → ⊥
-  there_not_full few e (inl over) = omega (arith, few, over)
-  there_not_full few e (inr full) = let f : true ≡ false = sym e ∙ (λ i. full.0 i || full.1 i) in cc
-
-  pub room_not_full : set.len (graph s) ≤ s.max → set.len (graph s) + set.len (staged_graph s b) < s.max → IsFull s b t → ⊥
-  room_not_full few room (inl over) = omega (arith, few, over)
-  room_not_full few room (inr full) = omega (arith, room, full.2)

@@ -113,10 +113,6 @@ pub not_new : (old new : Terms) (t : Term) (id : ℕ) → Interns old new t id �
 not_new old new t id (inl same) le = (same.0, same.1)
 not_new old new t id (inr added) le = absurd (let e = fewer old new t id added.1 added.2 in omega (arith, e))
 
-pub is_new : (old new : Terms) (t : Term) (id : ℕ) → Interns old new t id → map.len old < map.len new → IsNew old t × (map.get old id ≡ None) × (new ≡ map.insert old id t)
-is_new old new t id (inl same) more = absurd (let e = ap map.len same.1 in omega (arith, e))
-is_new old new t id (inr added) more = added
-
 pub notes_few : (old new : Terms) (noted more : List Id) (t : Term) (id : Id) → Notes old noted new more t id → map.len new ≤ map.len old + 1
 notes_few old new noted more t id (inl same) = let e = ap map.len same.1 in omega (arith, e)
 notes_few old new noted more t id (inr added) = let e = fewer old new t id.0 added.1 added.2 in omega (arith, e)

@@ -72,7 +72,7 @@ module _ {X Y : Type 0} {Q : X → X → Ordering} {P : Y → Y → Ordering} (o
   no_more false n m k e le = omega (arith, e)
 
   -- no more values than members
-  len-image_most : (f : X → Y) (H : FinSet Q) → set.len (image P f H) ≤ set.len H
+  pub len-image_most : (f : X → Y) (H : FinSet Q) → set.len (image P f H) ≤ set.len H
   len-image_most f = set_ind o exact (λ H. set.len (image P f H) ≤ set.len H)
       (let e = ap set.len (image-empty o exact op exact_p f) ∙ set.len-empty P in omega (arith, e))
       (λ H x new ind.
@@ -80,7 +80,7 @@ module _ {X Y : Type 0} {Q : X → X → Ordering} {P : Y → Y → Ordering} (o
       let le = no_more (set.contains (image P f H) (f x)) (set.len (image P f H)) (set.len (image P f (set.insert H x))) (set.len H) (ap set.len (image-insert o exact op exact_p f H x) ∙ set.len-insert op (image P f H) (f x)) ind in
       omega (arith, more, le))
 
-  len-union_most : (s t : FinSet Q) → set.len (set.union s t) ≤ set.len s + set.len t
+  pub len-union_most : (s t : FinSet Q) → set.len (set.union s t) ≤ set.len s + set.len t
   len-union_most s = set_ind o exact (λ t. set.len (set.union s t) ≤ set.len s + set.len t)
       (let e = ap set.len (union_empty o exact s) in omega (arith, e))
       (λ t k new ind.
@@ -110,7 +110,7 @@ len-one_each {X = X} {R = R} o exact = map_ind o exact (λ m. map.len m ≡ sum_
     let sum = sum_over-insert o exact m (λ _ _. 1) k v none in
     omega (arith, more, sum, ind))
 
-marked_one_each : {K : Type 0} {R : K → K → Ordering} (o : IsTotalOrder R) (exact : IsAntisymmetric R) (s : FinSet R) → sum_over (marked s) (λ _ _. 1) ≡ set.len s
+pub marked_one_each : {K : Type 0} {R : K → K → Ordering} (o : IsTotalOrder R) (exact : IsAntisymmetric R) (s : FinSet R) → sum_over (marked s) (λ _ _. 1) ≡ set.len s
 marked_one_each {R = R} o exact = set_ind o exact (λ s. sum_over (marked s) (λ _ _. 1) ≡ set.len s)
     (ap (λ m. sum_over m (λ _ _. 1)) (marked-empty o exact) ∙ sum_over-empty o exact (λ _ _. 1) ∙ sym (set.len-empty R))
     (λ s k new ind.

@@ -19,8 +19,7 @@ use Rattle.set_image.specs.ImageLaws.{image-from_list}
 use Rattle.tuple_image.specs.TupleImages.{IsOver}
 use Rattle.graph_image.specs.Images.{triple_at, graph_of, IsKnown, AreKnown}
 use Rattle.graph_image.specs.ImageLaws.{tuples_total, tuples_exact, graph_of-empty, len-graph_of}
-use Rattle.graph_lines.specs.Walks.{has_id, line_behind}
-use Rattle.graph_lines.proofs.WalkLemmas.{AreAdded}
+use Rattle.graph_lines.specs.Walks.{AddsTexts, has_id, line_behind}
 
 -- known triples have known Ids
 pub known_ids : (terms : Terms) (H : IdSet) → AreKnown terms H → IsOver (has_id terms) H
@@ -42,7 +41,7 @@ module _ (terms : Terms) where
 abbrev pub HasLines : Graph → List Text → Type 0
 HasLines G lines = (triples : List Triple) × AreTriplesOf G triples × (lines ≡ each dump_line triples)
 
-pub lines_read : (terms : Terms) → IsOneToOne terms → (H : IdSet) → AreKnown terms H → (before : Text) (old now : List Text) → before ≡ [] → old ≡ [] → AreAdded terms before H old now → HasLines (graph_of terms H) now
+pub lines_read : (terms : Terms) → IsOneToOne terms → (H : IdSet) → AreKnown terms H → (before : Text) (old now : List Text) → before ≡ [] → old ≡ [] → AddsTexts (line_behind terms before) H old now → HasLines (graph_of terms H) now
 lines_read terms one H known before old now nothing none added =
     let ts = added.0 in
     let members = added.1 in (

@@ -1,13 +1,10 @@
 -- The part of a set that a walk over its first keys has seen.
-use Rattle.std.specs.Prelude.{◌≡◌, ◌≢◌, ℕ, suc, ◌+◌, ◌-◌, ◌<◌, ◌≤◌, ◌^◌, ◌&&◌, ◌||◌, Bool, true, false, nat_lt, List, [], ◌∷◌, ◌++◌, length, refl, codes, Some, unwrap_or}
+use Rattle.std.specs.Prelude.{◌≡◌, ◌≢◌, ℕ, ◌+◌, ◌<◌, ◌≤◌, ◌&&◌, ◌||◌, Bool, true, false, nat_lt, List, [], ◌∷◌, ◌++◌, refl}
 use Rattle.std.specs.Prelude.{map as each}
-use Rattle.std.specs.FinMap as map
 use Rattle.std.proofs.Common.{sym, ◌∙◌, ap, subst, arith, append_assoc}
-use Rattle.std.specs.List.{list_all}
 use Rattle.std.proofs.lemmas.Bool.Decides.{nat_tests}
 use Rattle.std.proofs.lemmas.Cmp.{nat_cmp_total as total, lists_total}
 use Rattle.std.proofs.lemmas.List.{length-map, length-append, append-nil, map-append}
-use Rattle.std.proofs.lemmas.List.Elements.{All-head}
 use Rattle.std.specs.Cmp.Lexicographic.{slice_cmp}
 use Rattle.std.specs.FinMap.{nat_cmp-IsAntisymmetric as exact}
 use Rattle.std.specs.FinSet.{slice_cmp-IsAntisymmetric}
@@ -18,20 +15,16 @@ use Rattle.hypertrie_model.specs.IdSets.{IdSet}
 use Rattle.hypertrie_model.specs.Sets.{has, empty, single, HasDepth}
 use Rattle.hypertrie_model.specs.SetLaws.{same_sets, same_test, and_both, or_cases, or_right, tied-is, tied-itself, has-single, len-single}
 use Rattle.hypertrie_model.specs.SetInduction.{len-union_disjoint}
-use Rattle.hypertrie_model.specs.Slices.{slice, slice_at_mask}
+use Rattle.hypertrie_model.specs.Slices.{slice}
 use Rattle.hypertrie_model.specs.SliceLaws.{has-slice}
-use Rattle.hypertrie_model.specs.MaskLaws.{slice_at_mask-first, slice_at_no_mask}
 use Rattle.hypertrie_model.specs.Members.{contains-kept, no_members}
-use Rattle.hypertrie_model.specs.Listings.{set_of, set_of-append}
+use Rattle.hypertrie_model.specs.Listings.{set_of-append}
 use Rattle.hypertrie_model.specs.UnionSizes.{prefixed, has-prefixed, has-prefixed_nil, len-prefixed}
-use Rattle.trie_depth.specs.Operands.{Admits, IsIdTuple}
 use Rattle.set_image.specs.Images.{image}
 use Rattle.set_image.specs.ImageLaws.{image-from_list}
-use Rattle.tuple_image.specs.TupleImages.{IsOver}
-use Rattle.rdf_model.specs.Terms.{Text, Term, Iri}
-use Rattle.rdf_model.specs.Texts.{canon}
-use Rattle.term_dict.specs.Dict.{Terms}
-use Rattle.graph_lines.specs.Walks.{AreMembersOf, words as words_of, line_behind}
+use Rattle.rdf_model.specs.Terms.{Text}
+use Rattle.graph_shape.specs.Sorting.{AreMembersOf}
+use Rattle.graph_lines.specs.Walks.{AddsTexts}
 
 -- whether the first key of the tuple is below
 abbrev pub starts_below : ℕ → List ℕ → Bool
@@ -79,23 +72,34 @@ image_prefixed : (k : ℕ) (S : IdSet) → image (slice_cmp nat_cmp) (λ t. k �
 unfolding image
 image_prefixed k S = refl
 
+-- the members of a slice, under its key
+pub members_under : (k : ℕ) (S : IdSet) (rest : List (List ℕ)) → AreMembersOf S rest → AreMembersOf (prefixed nat_cmp k S) (each (λ t. k ∷ t) rest)
+members_under k S rest members = record {
+  all = sym (image-from_list (lists_total total) (slice_cmp-IsAntisymmetric exact) (lists_total total) (slice_cmp-IsAntisymmetric exact) (λ t. k ∷ t) rest)
+      ∙ ap (image (slice_cmp nat_cmp) (λ t. k ∷ t)) members.all ∙ image_prefixed k S;
+  once = length-map rest (λ t. k ∷ t) ∙ members.once ∙ sym (len-prefixed total exact k S);
+}
+
+-- those of two sets that have none in common
+pub members_union : (H K : IdSet) (xs ys : List (List ℕ)) → ((t : List ℕ) → has K t ≡ true → has H t ≡ false) → AreMembersOf H xs → AreMembersOf K ys → AreMembersOf (set.union H K) (xs ++ ys)
+members_union H K xs ys apart first second = record {
+  all = set_of-append total exact xs ys ∙ (λ i. set.union (first.all i) (second.all i));
+  once = length-append xs ys ∙ (λ i. first.once i + second.once i) ∙ sym (len-union_disjoint (lists_total total) (slice_cmp-IsAntisymmetric exact) H K apart);
+}
+
 -- ---- key after key
 
-module _ (H : IdSet) (n : ℕ) (deep : HasDepth n H) (some : 1 ≤ n) where
-  -- the slice at the first position alone
-  pub first_slice : (k : ℕ) → slice_at_mask nat_cmp H 1 k ≡ slice nat_cmp H 0 k
-  first_slice k = slice_at_mask-first total exact H (n - 1) (subst (λ m. HasDepth m H) (let e : n ≡ suc (n - 1) = omega arith in e) deep) 1 k refl ∙ slice_at_no_mask total exact (slice nat_cmp H 0 k) k
-
+module _ (H : IdSet) (nil : has H [] ≡ false) where
   -- a tuple of the set, and the key that it begins with
   begins : (P : List ℕ → Type 0) → ((k : ℕ) (u : List ℕ) → has H (k ∷ u) ≡ true → P (k ∷ u)) → (t : List ℕ) → has H t ≡ true → P t
-  begins P by [] e = absurd (let none = deep [] e in omega arith)
+  begins P by [] e = absurd (let n : false ≡ true = sym nil ∙ e in let f : ⊥ = cc in f)
   begins P by (k ∷ u) e = by k u e
 
-  -- a key that begins a tuple is admitted
-  admitted : (k : ℕ) (u : List ℕ) → has H (k ∷ u) ≡ true → Admits H 1 k
-  admitted k u e none =
+  -- a key that begins a tuple has a slice
+  not_empty : (k : ℕ) (u : List ℕ) → has H (k ∷ u) ≡ true → slice nat_cmp H 0 k ≢ empty nat_cmp
+  not_empty k u e none =
       let there : has (slice nat_cmp H 0 k) u ≡ true = has-slice total exact H 0 k u (omega arith) ∙ e in
-      let n : false ≡ true = sym (set.contains-empty (slice_cmp nat_cmp) u) ∙ ap (λ S. has S u) (sym none ∙ first_slice k) ∙ there in
+      let n : false ≡ true = sym (set.contains-empty (slice_cmp nat_cmp) u) ∙ ap (λ S. has S u) (sym none) ∙ there in
       let f : ⊥ = cc in f
 
   test_of_lt : (k from : ℕ) → k < from → nat_lt k from ≡ true
@@ -105,24 +109,17 @@ module _ (H : IdSet) (n : ℕ) (deep : HasDepth n H) (some : 1 ≤ n) where
   lt_of_test k from h = grind (arith, nat_tests)
 
   -- all tuples were seen where no key is left
-  pub part_all : (from : ℕ) → ((k : ℕ) → from ≤ k → Admits H 1 k → ⊥) → part H from ≡ H
+  pub part_all : (from : ℕ) → ((k : ℕ) → from ≤ k → slice nat_cmp H 0 k ≡ empty nat_cmp) → part H from ≡ H
   part_all from none = same_sets total exact (part H from) H (λ t. same_test _ _
       (λ e. (and_both (has H t) (starts_below from t) (sym (has-part H from t) ∙ e)).0)
       (λ e. has-part H from t ∙ (λ i. e i && begins (λ v. starts_below from v ≡ true) below t e i))) where
         below : (k : ℕ) (u : List ℕ) → has H (k ∷ u) ≡ true → starts_below from (k ∷ u) ≡ true
         below k u there = elim (dec_lt k from) as (λ _. starts_below from (k ∷ u) ≡ true) [
           | yes lt ↦ test_of_lt k from lt
-          | no ge ↦ absurd (none k (omega arith) (admitted k u there))
+          | no ge ↦ absurd (not_empty k u there (none k (omega arith)))
         ]
 
-  -- and where all ids were
-  pub part_ids : (from : ℕ) → 2 ^ 32 ≤ from → ((t : List ℕ) → has H t ≡ true → IsIdTuple t) → part H from ≡ H
-  part_ids from high small = part_all from (λ k le there. there (no_members (lists_total total) (slice_cmp-IsAntisymmetric exact) (slice_at_mask nat_cmp H 1 k) (λ u e.
-      let there : has H (k ∷ u) ≡ true = sym (has-slice total exact H 0 k u (omega arith)) ∙ ap (λ S. has S u) (sym (first_slice k)) ∙ e in
-      let lt : k < 2 ^ 32 = All-head (λ n. n < 2 ^ 32) k u (small (k ∷ u) there) in
-      omega arith)))
-
-  module _ (from k : ℕ) (high : from ≤ k) (least : (q : ℕ) → from ≤ q → q < k → Admits H 1 q → ⊥) where
+  module _ (from k : ℕ) (high : from ≤ k) (skipped : (q : ℕ) → from ≤ q → q < k → slice nat_cmp H 0 q ≡ empty nat_cmp) where
     -- the next key brings its slice, under the key
     part_next : part H (k + 1) ≡ set.union (part H from) (prefixed nat_cmp k (slice nat_cmp H 0 k))
     part_next = same_sets total exact _ _ at where
@@ -133,7 +130,7 @@ module _ (H : IdSet) (n : ℕ) (deep : HasDepth n H) (some : 1 ≤ n) where
       into x u there lt = elim (dec_lt x from) as (λ _. ((has H (x ∷ u) && nat_lt x from) || (eq_by_cmp nat_cmp x k && has H (k ∷ u))) ≡ true) [
         | yes below ↦ ap (λ b. b || (eq_by_cmp nat_cmp x k && has H (k ∷ u))) (λ i. there i && test_of_lt x from below i)
         | no above ↦
-            let is : x ≡ k = elim (dec_lt x k) as (λ _. x ≡ k) [ yes less ↦ absurd (least x (omega arith) less (admitted x u there)) | no more ↦ omega arith ] in
+            let is : x ≡ k = elim (dec_lt x k) as (λ _. x ≡ k) [ yes less ↦ absurd (not_empty x u there (skipped x (omega arith) less)) | no more ↦ omega arith ] in
             or_right (has H (x ∷ u) && nat_lt x from) (eq_by_cmp nat_cmp x k && has H (k ∷ u))
             (λ i. (ap (λ z. eq_by_cmp nat_cmp z k) is ∙ tied-itself total k) i && (ap (λ z. has H (z ∷ u)) (sym is) ∙ there) i)
       ]
@@ -170,68 +167,39 @@ module _ (H : IdSet) (n : ℕ) (deep : HasDepth n H) (some : 1 ≤ n) where
           not_below is = grind (arith, nat_tests)
 
     -- the members seen, and those of the slice under the key
-    pub members_next : (seen rest : List (List ℕ)) → AreMembersOf (part H from) seen → AreMembersOf (slice_at_mask nat_cmp H 1 k) rest → AreMembersOf (part H (k + 1)) (seen ++ each (λ t. k ∷ t) rest)
+    members_next : (seen rest : List (List ℕ)) → AreMembersOf (part H from) seen → AreMembersOf (slice nat_cmp H 0 k) rest → AreMembersOf (part H (k + 1)) (seen ++ each (λ t. k ∷ t) rest)
     members_next seen rest old new =
         let S = slice nat_cmp H 0 k in
-        let under : set_of nat_cmp (each (λ t. k ∷ t) rest) ≡ prefixed nat_cmp k S =
-        sym (image-from_list (lists_total total) (slice_cmp-IsAntisymmetric exact) (lists_total total) (slice_cmp-IsAntisymmetric exact) (λ t. k ∷ t) rest)
-        ∙ ap (image (slice_cmp nat_cmp) (λ t. k ∷ t)) (new.all ∙ first_slice k) ∙ image_prefixed k S in
-        let sizes : set.len (part H (k + 1)) ≡ set.len (part H from) + set.len S =
-        ap set.len part_next ∙ len-union_disjoint (lists_total total) (slice_cmp-IsAntisymmetric exact) (part H from) (prefixed nat_cmp k S) apart ∙ ap (λ n. set.len (part H from) + n) (len-prefixed total exact k S) in
-        let fresh : length rest ≡ set.len S = new.once ∙ ap set.len (first_slice k) in
-        let seen_once = old.once in
-        record {
-          all = set_of-append total exact seen (each (λ t. k ∷ t) rest) ∙ (λ i. set.union (old.all i) (under i)) ∙ sym part_next;
-          once = length-append seen (each (λ t. k ∷ t) rest) ∙ ap (λ n. length seen + n) (length-map rest (λ t. k ∷ t)) ∙ omega arith;
-        }
+        let both = members_union (part H from) (prefixed nat_cmp k S) seen (each (λ t. k ∷ t) rest) apart old (members_under k S rest new) in
+        record { all = both.all ∙ sym part_next; once = both.once ∙ ap set.len (sym part_next) }
 
-  module _ (known : ℕ → Bool) (over : IsOver known H) where
-    -- an admitted key is known
-    pub key_known : (k : ℕ) → Admits H 1 k → known k ≡ true
-    key_known k there = elim (known k) as (λ b. known k ≡ b → known k ≡ true) [
-      | true ↦ λ e. e
-      | false ↦ λ e. absurd (there (no_members (lists_total total) (slice_cmp-IsAntisymmetric exact) (slice_at_mask nat_cmp H 1 k) (λ u in_slice.
-          let known_key = (and_both (known k) (list_all known u) (over (k ∷ u) (sym (has-slice total exact H 0 k u (omega arith)) ∙ ap (λ S. has S u) (sym (first_slice k)) ∙ in_slice))).0 in
-          let f : ⊥ = cc in f)))
-    ] refl
+-- ---- the texts of what was seen
 
-    -- and so are the elements behind it
-    pub rest_known : (k : ℕ) → IsOver known (slice_at_mask nat_cmp H 1 k)
-    rest_known k u in_slice = (and_both (known k) (list_all known u) (over (k ∷ u) (sym (has-slice total exact H 0 k u (omega arith)) ∙ ap (λ S. has S u) (sym (first_slice k)) ∙ in_slice))).1
+-- the texts are those that were there, and behind them those of the tuples whose first key is below
+abbrev pub Walked : (List ℕ → Text) → IdSet → ℕ → List Text → List Text → Type 0
+Walked text H from old now = AddsTexts text (part H from) old now
 
--- ---- the lines of what was seen
+pub walked_none : (text : List ℕ → Text) (H : IdSet) (old : List Text) → Walked text H 0 old old
+walked_none text H old = ([], members_none H, sym (append-nil old))
 
--- the lines are those that were there, and then those of the tuples that begin with a key below
-abbrev pub Walked : Terms → Text → IdSet → ℕ → List Text → List Text → Type 0
-Walked terms before H from old now = (seen : List (List ℕ)) × AreMembersOf (part H from) seen × (now ≡ old ++ each (line_behind terms before) seen)
+pub walked_all : (text : List ℕ → Text) (H : IdSet) → has H [] ≡ false → (from : ℕ) → ((k : ℕ) → from ≤ k → slice nat_cmp H 0 k ≡ empty nat_cmp) → (old now : List Text) → Walked text H from old now → AddsTexts text H old now
+walked_all text H nil from none old now seen = (seen.0, subst (λ S. AreMembersOf S seen.0) (part_all H nil from none) seen.1, seen.2)
 
--- the lines are those that were there, and then those of all tuples
-abbrev pub AreAdded : Terms → Text → IdSet → List Text → List Text → Type 0
-AreAdded terms before H old now = (tuples : List (List ℕ)) × AreMembersOf H tuples × (now ≡ old ++ each (line_behind terms before) tuples)
+-- the text of the one tuple of no key
+pub added_nil : (text : List ℕ → Text) (H : IdSet) → HasDepth 0 H → H ≢ empty nat_cmp → (old now : List Text) → now ≡ old ++ text [] ∷ [] → AddsTexts text H old now
+added_nil text H deep some old now is = ([] ∷ [], members_nil H deep some, is)
 
-pub walked_none : (terms : Terms) (before : Text) (H : IdSet) (old : List Text) → Walked terms before H 0 old old
-walked_none terms before H old = ([], members_none H, sym (append-nil old))
+module _ (text under : List ℕ → Text) (k : ℕ) (same : (t : List ℕ) → under t ≡ text (k ∷ t)) where
+  same_texts : (ts : List (List ℕ)) → each under ts ≡ each text (each (λ t. k ∷ t) ts)
+  same_texts [] = refl
+  same_texts (t ∷ ts) = λ i. same t i ∷ same_texts ts i
 
-pub added_nil : (terms : Terms) (before : Text) (H : IdSet) (old now : List Text) → HasDepth 0 H → H ≢ empty nat_cmp → now ≡ old ++ (before ++ codes ".") ∷ [] → AreAdded terms before H old now
-added_nil terms before H old now deep some is = ([] ∷ [], members_nil H deep some, is ∙ ap (λ w. old ++ (w ++ codes ".") ∷ []) (sym (append-nil before)))
-
-module _ (terms : Terms) (before words : Text) (k : ℕ) (term : Term) (found : map.get terms k ≡ Some term) (is : words ≡ before ++ canon term ++ codes " ") where
-  line_under : (t : List ℕ) → line_behind terms words t ≡ line_behind terms before (k ∷ t)
-  line_under t = ap (λ w. w ++ words_of terms t ++ codes ".") (is ∙ ap (λ o. before ++ canon (unwrap_or o (Iri [])) ++ codes " ") (sym found)) ∙ simp append_assoc
-
-  lines_under : (ts : List (List ℕ)) → each (line_behind terms words) ts ≡ each (line_behind terms before) (each (λ t. k ∷ t) ts)
-  lines_under [] = refl
-  lines_under (t ∷ ts) = λ i. line_under t i ∷ lines_under ts i
-
-  -- one key more
-  pub walked_next : (H : IdSet) (n : ℕ) → HasDepth n H → 1 ≤ n → (from : ℕ) → from ≤ k → ((q : ℕ) → from ≤ q → q < k → Admits H 1 q → ⊥)
-      → (S : IdSet) → S ≡ slice_at_mask nat_cmp H 1 k → (old mid now : List Text) → Walked terms before H from old mid → AreAdded terms words S mid now → Walked terms before H (k + 1) old now
-  walked_next H n deep some from high least S same old mid now seen rest = (
+  -- one key more, with the texts of its slice
+  pub walked_next : (H : IdSet) → has H [] ≡ false → (from : ℕ) → from ≤ k → ((q : ℕ) → from ≤ q → q < k → slice nat_cmp H 0 q ≡ empty nat_cmp)
+      → (S : IdSet) → S ≡ slice nat_cmp H 0 k → (old mid now : List Text) → Walked text H from old mid → AddsTexts under S mid now → Walked text H (k + 1) old now
+  walked_next H nil from high skipped S is old mid now seen rest = (
     seen.0 ++ each (λ t. k ∷ t) rest.0,
-    members_next H n deep some from k high least seen.0 rest.0 seen.1 (subst (λ T. AreMembersOf T rest.0) same rest.1),
-    rest.2 ∙ (λ i. seen.2 i ++ lines_under rest.0 i) ∙ append_assoc old (each (line_behind terms before) seen.0) (each (line_behind terms before) (each (λ t. k ∷ t) rest.0))
-        ∙ ap (λ ls. old ++ ls) (sym (map-append (line_behind terms before) seen.0 (each (λ t. k ∷ t) rest.0))),
+    members_next H nil from k high skipped seen.0 rest.0 seen.1 (subst (λ T. AreMembersOf T rest.0) is rest.1),
+    rest.2 ∙ (λ i. seen.2 i ++ same_texts rest.0 i) ∙ append_assoc old (each text seen.0) (each text (each (λ t. k ∷ t) rest.0))
+        ∙ ap (λ ls. old ++ ls) (sym (map-append text seen.0 (each (λ t. k ∷ t) rest.0))),
   )
-
-pub added_all : (terms : Terms) (before : Text) (H : IdSet) (from : ℕ) (old now : List Text) → part H from ≡ H → Walked terms before H from old now → AreAdded terms before H old now
-added_all terms before H from old now all seen = (seen.0, subst (λ S. AreMembersOf S seen.0) all seen.1, seen.2)

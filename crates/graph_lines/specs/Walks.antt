@@ -1,24 +1,36 @@
--- Tuples of Ids as the words of a line, and a set's members in a list.
-use Rattle.std.specs.Prelude.{◌≡◌, ℕ, Bool, is_some, List, [], ◌∷◌, ◌++◌, length, codes, Option, None, Some}
+-- Tuples of Ids as texts, and the texts of a set's members in a list.
+use Rattle.std.specs.Prelude.{◌≡◌, ℕ, Bool, is_some, List, [], ◌∷◌, ◌++◌, map, codes, Option, None, Some}
 use Rattle.std.specs.Ordering.{nat_cmp}
 use Rattle.std.specs.declared.cmp.Ordering.{Ordering}
-use Rattle.std.specs.FinMap as map
+use Rattle.std.specs.FinMap as finite
+use Rattle.std.specs.FinMap.{FinMap}
 use Rattle.std.specs.FinSet as set
 use Rattle.hypertrie_model.specs.IdSets.{IdSet}
-use Rattle.hypertrie_model.specs.Sets.{empty}
+use Rattle.hypertrie_model.specs.Sets.{empty, single}
+use Rattle.hypertrie_model.specs.Unions.{union_over}
 use Rattle.rdf_model.specs.Terms.{Text}
 use Rattle.rdf_model.specs.Texts.{canon}
+use Rattle.rdf_model.specs.Graph.{term_cmp}
 use Rattle.term_dict.specs.Dict.{Terms}
+use Rattle.trie_context.specs.declared.tables.Tables.{Tables}
+use Rattle.trie_context.specs.Rows.{row_of, set_of}
+use Rattle.trie_context.specs.Holds.{count_of}
+use Rattle.tuple_image.specs.TupleImages.{tuple_image}
+use Rattle.graph_shape.specs.Sorting.{AreMembersOf}
+use Rattle.graph_shape.specs.GraphShapes.{GraphRow, member_text, row_line}
 use Rattle.graph_image.specs.Images.{term_at}
 
--- the members of a set, each once, in some order
-pub record AreMembersOf {K : Type 0} {R : K → K → Ordering} (H : set.FinSet R) (members : List K) : Type 0 where
-  pub all : set.from_list members ≡ H
-  pub once : length members ≡ set.len H
+-- the texts are those that were there, and behind them that of each member of the set
+abbrev pub AddsTexts : {K : Type 0} {R : K → K → Ordering} → (K → Text) → set.FinSet R → List Text → List Text → Type 0
+AddsTexts {K} text H old new = (members : List K) × AreMembersOf H members × (new ≡ old ++ map text members)
+
+-- the keys of a finite map, as tuples of one number
+abbrev pub key_set : {X : Type 0} → FinMap nat_cmp X → IdSet
+key_set m = union_over m (λ _. single nat_cmp [])
 
 -- whether the dictionary has a term for the Id
 abbrev pub has_id : Terms → ℕ → Bool
-has_id terms id = is_some (map.get terms id)
+has_id terms id = is_some (finite.get terms id)
 
 -- the text of each Id's term, with a space behind it
 abbrev pub words : Terms → List ℕ → Text
@@ -28,6 +40,19 @@ words terms (id ∷ ids) = canon (term_at terms id) ++ codes " " ++ words terms 
 -- the line of the words that are there and those of the Ids
 abbrev pub line_behind : Terms → Text → List ℕ → Text
 line_behind terms before ids = before ++ words terms ids ++ codes "."
+
+-- the text that is there, and that of a member of a row, as an answer has it
+abbrev pub member_behind : Terms → Text → List ℕ → Text
+member_behind terms before ids = before ++ member_text (map (term_at terms) ids)
+
+-- a row of the tables, its set read through the dictionary
+abbrev pub row_read : Terms → Tables → ℕ → ℕ → GraphRow
+row_read terms t d r = record { depth = d; tuples = tuple_image term_cmp (term_at terms) (set_of t d r); count = count_of (row_of t d r) }
+
+-- the line of the row of a depth whose number the tuple is
+abbrev pub row_text : Terms → Tables → ℕ → List ℕ → Text
+row_text terms t d [] = []
+row_text terms t d (r ∷ rest) = row_line (row_read terms t d r)
 
 -- the set of an operand, and no tuple where there is none
 abbrev pub set_in : {O : Type 0} → (O → IdSet) → Option O → IdSet

@@ -3,7 +3,11 @@
 #![tactic(auto)]
 
 mod dumping;
+mod members;
+mod row_lines;
+mod shape;
 mod sorted;
 mod triple_lines;
 
 pub use dumping::dump;
+pub use shape::shape_lines;

@@ -9,7 +9,7 @@ ghost use Rattle.rdf_term.specs.Seen.{lent_term};
 ghost use Rattle.term_dict.specs.Dict.{IsOneToOne};
 ghost use Rattle.tuple_image.specs.TupleImages.{IsOver};
 ghost use Rattle.graph_image.specs.Images.{graph_of, AreKnown};
-ghost use Rattle.graph_lines.specs.Walks.{AreMembersOf, has_id, line_behind, set_in};
+ghost use Rattle.graph_lines.specs.Walks.{AddsTexts, has_id, line_behind, set_in};
 
 use crate::sorted::sorted_lines;
 use rdf_term::{TermRef, canon_text};
@@ -44,7 +44,7 @@ fn add_lines<O: Operand, W: Ledger>(
 ) -> Result<(), Memory>
     requires known { IsOver (has_id dict.now) (O.tuples slice) }
     requires some { O.depth_of slice ≡ 0 → O.tuples slice ≢ empty nat_cmp }
-    ensures { OnOk result ((tuples : List (List ℕ)) × AreMembersOf (O.tuples slice) tuples × (lines.new.items ≡ lines.old.items ++ each (line_behind dict.now before) tuples)) }
+    ensures { OnOk result (AddsTexts (line_behind dict.now before) (O.tuples slice) lines.old.items lines.new.items) }
 {
     if slice.depth() == 0 {
         let mut line = before;

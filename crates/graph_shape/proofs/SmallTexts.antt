@@ -3,7 +3,7 @@ use Rattle.std.proofs.Common.{◌≡◌, [], ◌∷◌, refl}
 use Rattle.std.specs.Prelude.{codes}
 use Rattle.rdf_model.specs.Terms.{Iri, Literal, Tagged}
 use Rattle.graph_shape.specs.Sorting.{in_order}
-use Rattle.graph_shape.specs.GraphShapes.{text_cmp, member_text, tabbed, depth_name}
+use Rattle.graph_shape.specs.GraphShapes.{member_text, tabbed, depth_name}
 
 pair : member_text (Iri (codes "x:a") ∷ Iri (codes "x:p") ∷ []) ≡ codes "<x:a> <x:p>"
 pair = refl
@@ -11,7 +11,7 @@ pair = refl
 key : member_text (Literal (codes "a\tb") (Tagged (codes "en")) ∷ []) ≡ codes "\"a\\tb\"@en"
 key = refl
 
-members : tabbed (in_order text_cmp (codes "<x:b>" ∷ codes "<x:a> <x:p>" ∷ codes "<x:a>" ∷ codes "<x:b>" ∷ [])) ≡ codes "\t<x:a>\t<x:a> <x:p>\t<x:b>\t<x:b>"
+members : tabbed (in_order (codes "<x:b>" ∷ codes "<x:a> <x:p>" ∷ codes "<x:a>" ∷ codes "<x:b>" ∷ [])) ≡ codes "\t<x:a>\t<x:a> <x:p>\t<x:b>\t<x:b>"
 members = refl
 
 keys : depth_name 1 ≡ codes "one"

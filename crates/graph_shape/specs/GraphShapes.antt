@@ -1,8 +1,6 @@
 -- The shape of a graph, its text, and its figures (docs/SCRIPT.md). A row is a set of pairs or of single terms, with the number of slices of the graph that it is.
-use Rattle.std.specs.Prelude.{ℕ, Bool, cond, nat_eq, nat_le, nat_lt, List, [], ◌∷◌, ◌++◌, map, codes, decimal}
+use Rattle.std.specs.Prelude.{ℕ, Bool, cond, nat_eq, nat_le, nat_lt, List, [], ◌∷◌, ◌++◌, codes, decimal}
 use Rattle.std.specs.List.{flat_map}
-use Rattle.std.specs.Ordering.{nat_cmp}
-use Rattle.std.specs.declared.cmp.Ordering.{Ordering}
 use Rattle.std.specs.Cmp.Lexicographic.{slice_cmp}
 use Rattle.std.specs.FinSet as set
 use Rattle.hypertrie_model.specs.Sets.{TupleSet}
@@ -11,7 +9,7 @@ use Rattle.rdf_model.specs.Terms.{Text, Term, Triple}
 use Rattle.rdf_model.specs.Texts.{tsv}
 use Rattle.rdf_model.specs.Graph.{Graph, term_cmp}
 use Rattle.set_image.specs.Images.{image}
-use Rattle.graph_shape.specs.Sorting.{in_order}
+use Rattle.graph_shape.specs.Sorting.{sorted_texts}
 
 -- subject, predicate and object as a tuple
 abbrev pub tuple_of : Triple → List Term
@@ -23,10 +21,6 @@ tuples_of G = image (slice_cmp term_cmp) tuple_of G
 
 abbrev pub GraphRow : Type 0
 GraphRow = ShapeRow term_cmp
-
--- texts in the order of their bytes
-abbrev pub text_cmp : Text → Text → Ordering
-text_cmp = slice_cmp nat_cmp
 
 -- the text of each term, with a space before it
 abbrev pub spaced : List Term → Text
@@ -42,15 +36,12 @@ member_text (x ∷ xs) = tsv x ++ spaced xs
 abbrev pub tabbed : List Text → Text
 tabbed = flat_map (λ text. codes "\t" ++ text)
 
--- the texts of the members, in the order of their bytes
-abbrev pub member_texts : TupleSet term_cmp → List Text
-member_texts S = in_order text_cmp (map member_text (set.items S))
-
 abbrev pub depth_name : ℕ → Text
 depth_name d = cond (nat_eq d 1) (codes "one") (codes "two")
 
+-- what the row is, how many slices, and its members in the order of the bytes of their texts
 abbrev pub row_line : GraphRow → Text
-row_line row = depth_name row.depth ++ codes "\t" ++ decimal row.count ++ tabbed (member_texts row.tuples)
+row_line row = depth_name row.depth ++ codes "\t" ++ decimal row.count ++ tabbed (sorted_texts member_text row.tuples)
 
 -- rows of pairs and of single terms; the row of the whole graph has no line
 abbrev pub has_line : GraphRow → Bool
@@ -62,7 +53,7 @@ line_rows G = set.retain (shape term_cmp (tuples_of G)) has_line
 
 -- the lines of the shape of a graph, in the order of their bytes
 unfoldable pub shape_lines : Graph → List Text
-shape_lines G = in_order text_cmp (map row_line (set.items (line_rows G)))
+shape_lines G = sorted_texts row_line (line_rows G)
 
 -- the terms of the triples of a graph: its subjects, predicates and objects
 unfoldable pub terms_of : Graph → set.FinSet term_cmp

@@ -1,4 +1,5 @@
 pub mod Sorting
 pub mod SortLaws
+pub mod MemberLaws
 pub mod GraphShapes
 pub mod Laws

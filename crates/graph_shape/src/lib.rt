@@ -2,11 +2,13 @@
 //! function of the graph, so they tell nothing of how it is kept; the functions below say what they are told from.
 #![tactic(auto)]
 
-ghost use Rattle.graph_shape.specs.Laws.{SortsToOne, ReadsShapes};
+ghost use Rattle.graph_shape.specs.Laws.{SortsToShapeLines, SortsToRowLine, ReadsShapes};
 
-/// Texts have one order by their bytes.
+/// The lines of a graph and each line of a row are what sorting makes of any list of the rows, or of the members, in
+/// which each stands once.
 pub fn sorting_has_one_outcome()
-    ensures { SortsToOne }
+    ensures lines { SortsToShapeLines }
+    ensures row { SortsToRowLine }
 {}
 
 /// The shape of a set of tuples of numbers, read term by term, is the shape of the tuples of the terms, row for row: the

@@ -1,0 +1,182 @@
+//! The members of a row of the tables, as texts.
+ghost use Rattle.std.specs.Prelude.{◌≡◌, ℕ, ◌≤◌, ◌++◌, [], codes, Some, IsSome, IfOk, OnOk};
+ghost use Rattle.std.specs.FinMap as map;
+ghost use Rattle.hypertrie_model.specs.Unions.{union_over};
+ghost use Rattle.rdf_model.specs.Texts.{tsv};
+ghost use Rattle.rdf_term.specs.Seen.{lent_term};
+ghost use Rattle.edge_map.specs.declared.edge.Edge.{Edge};
+ghost use Rattle.trie_depth.specs.Tuples.{pair_tuple};
+ghost use Rattle.trie_node.specs.Sets.{edge_set};
+ghost use Rattle.trie_context.specs.Rows.{row_of, set_of, LeadsToRow};
+ghost use Rattle.trie_context.specs.Kept.{AreKept};
+ghost use Rattle.tuple_image.specs.TupleImages.{IsOver};
+ghost use Rattle.graph_lines.specs.Walks.{AddsTexts, has_id, key_set, member_behind};
+
+use edge_map::{Edge, EdgeMap};
+use rdf_term::{TermRef, tsv_text};
+use std::alloc::Global;
+use term_dict::Dict;
+use tn_io::Text;
+use trie_context::Tables;
+use trie_depth::{Id, Memory, Pair};
+use trie_node::Node;
+
+/// A text and behind it that of a term.
+fn with_term(alloc: Global, before: &Text, term: TermRef<'_>) -> Result<Text, Memory>
+    ensures { IfOk result (λ text. text ≡ before.now ++ tsv (lent_term term.entry)) }
+{
+    let mut text = before.clone()?;
+    tsv_text(alloc, term, &mut text)?;
+    Ok(text)
+}
+
+/// The text of a term and a space.
+fn first_word(alloc: Global, term: TermRef<'_>) -> Result<Text, Memory>
+    ensures { IfOk result (λ text. text ≡ tsv (lent_term term.entry) ++ codes " ") }
+{
+    let mut text = Text::new(alloc);
+    tsv_text(alloc, term, &mut text)?;
+    text.push(" ")?;
+    Ok(text)
+}
+
+/// Adds the text of each key, behind the one that is there.
+fn add_keys(
+    alloc: Global,
+    keys: &EdgeMap,
+    before: &Text,
+    dict: &Dict,
+    members: &mut Vec<Text>,
+) -> Result<(), Memory>
+    requires known { IsOver (has_id dict.now) (key_set keys.now) }
+    ensures { OnOk result (AddsTexts (member_behind dict.now before.now) (key_set keys.now) members.old.items members.new.items) }
+{
+    let mut from = Id(0);
+    loop {
+        let Some((key, _)) = keys.seek(from) else {
+            return Ok(());
+        };
+        members.push(with_term(alloc, before, dict.term(key))?)?;
+        if key.0 == u32::MAX {
+            return Ok(());
+        }
+        from = Id(key.0 + 1);
+    }
+}
+
+/// The keys of a row of depth one.
+fn keys_of(tables: &Tables, row: usize) -> &EdgeMap
+    requires kept { (mixed : ℕ → ℕ → ℕ → ℕ → ℕ) × AreKept mixed tables.now }
+    requires there { IsSome (row_of tables.now 1 row) }
+    ensures { set_of tables.now 1 row ≡ key_set result.now }
+{
+    match tables.one.node(row).map(0) {
+        Some(keys) => keys,
+        None => unreachable!(),
+    }
+}
+
+/// Adds the text of each key that an edge stands for, behind the one that is there.
+fn add_edge(
+    alloc: Global,
+    tables: &Tables,
+    edge: Edge,
+    before: &Text,
+    dict: &Dict,
+    members: &mut Vec<Text>,
+) -> Result<(), Memory>
+    requires kept { (mixed : ℕ → ℕ → ℕ → ℕ → ℕ) × AreKept mixed tables.now }
+    requires there { LeadsToRow tables.now 1 edge }
+    requires known { IsOver (has_id dict.now) (edge_set (set_of tables.now 1) edge) }
+    ensures { OnOk result (AddsTexts (member_behind dict.now before.now) (edge_set (set_of tables.now 1) edge) members.old.items members.new.items) }
+{
+    match edge {
+        Edge::Key(key) => {
+            members.push(with_term(alloc, before, dict.term(key))?)?;
+            Ok(())
+        }
+        Edge::Node(row) => add_keys(alloc, keys_of(tables, row), before, dict, members),
+    }
+}
+
+/// Adds the text of each pair: a key, and one that its edge stands for.
+fn add_pairs(
+    alloc: Global,
+    tables: &Tables,
+    pairs: &EdgeMap,
+    dict: &Dict,
+    members: &mut Vec<Text>,
+) -> Result<(), Memory>
+    requires kept { (mixed : ℕ → ℕ → ℕ → ℕ → ℕ) × AreKept mixed tables.now }
+    requires there { (k : ℕ) (e : Edge) → map.get pairs.now k ≡ Some e → LeadsToRow tables.now 1 e }
+    requires known { IsOver (has_id dict.now) (union_over pairs.now (edge_set (set_of tables.now 1))) }
+    ensures { OnOk result (AddsTexts (member_behind dict.now []) (union_over pairs.now (edge_set (set_of tables.now 1))) members.old.items members.new.items) }
+{
+    let mut from = Id(0);
+    loop {
+        let Some((key, edge)) = pairs.seek(from) else {
+            return Ok(());
+        };
+        let word = first_word(alloc, dict.term(key))?;
+        add_edge(alloc, tables, edge, &word, dict, members)?;
+        if key.0 == u32::MAX {
+            return Ok(());
+        }
+        from = Id(key.0 + 1);
+    }
+}
+
+/// The text of a pair.
+fn pair_text(alloc: Global, pair: Pair, dict: &Dict) -> Result<Text, Memory>
+    requires first { IsSome (map.get dict.now pair.0.0) }
+    requires second { IsSome (map.get dict.now pair.1.0) }
+    ensures { IfOk result (λ text. text ≡ member_behind dict.now [] (pair_tuple pair)) }
+{
+    let word = first_word(alloc, dict.term(pair.0))?;
+    with_term(alloc, &word, dict.term(pair.1))
+}
+
+/// Adds the text of each pair of a row of depth two.
+fn add_row_pairs(
+    alloc: Global,
+    tables: &Tables,
+    row: usize,
+    dict: &Dict,
+    members: &mut Vec<Text>,
+) -> Result<(), Memory>
+    requires kept { (mixed : ℕ → ℕ → ℕ → ℕ → ℕ) × AreKept mixed tables.now }
+    requires there { IsSome (row_of tables.now 2 row) }
+    requires known { IsOver (has_id dict.now) (set_of tables.now 2 row) }
+    ensures { OnOk result (AddsTexts (member_behind dict.now []) (set_of tables.now 2 row) members.old.items members.new.items) }
+{
+    match tables.two.node(row) {
+        Node::Single(pair) => {
+            members.push(pair_text(alloc, *pair, dict)?)?;
+            Ok(())
+        }
+        Node::Full { first, .. } => add_pairs(alloc, tables, first, dict, members),
+    }
+}
+
+/// Adds the text of each member of a row of depth one or two.
+pub(crate) fn add_members(
+    alloc: Global,
+    tables: &Tables,
+    depth: usize,
+    row: usize,
+    dict: &Dict,
+    members: &mut Vec<Text>,
+) -> Result<(), Memory>
+    requires kept { (mixed : ℕ → ℕ → ℕ → ℕ → ℕ) × AreKept mixed tables.now }
+    requires low { 1 ≤ depth }
+    requires high { depth ≤ 2 }
+    requires there { IsSome (row_of tables.now depth row) }
+    requires known { IsOver (has_id dict.now) (set_of tables.now depth row) }
+    ensures { OnOk result (AddsTexts (member_behind dict.now []) (set_of tables.now depth row) members.old.items members.new.items) }
+{
+    if depth == 1 {
+        let keys = keys_of(tables, row);
+        return add_keys(alloc, keys, &Text::new(alloc), dict, members);
+    }
+    add_row_pairs(alloc, tables, row, dict, members)
+}

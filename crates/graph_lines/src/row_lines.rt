@@ -1,0 +1,126 @@
+//! The rows of the tables as lines: how many slices each is, and its members.
+ghost use Rattle.std.specs.Prelude.{◌≡◌, ℕ, ◌+◌, ◌≤◌, ◌++◌, [], codes, decimal, None, IsSome, IsNone, IfSome, IfOk, OnOk, IsTrue, ◌<◌};
+ghost use Rattle.graph_shape.specs.Sorting.{in_order};
+ghost use Rattle.graph_shape.specs.GraphShapes.{depth_name, tabbed, row_line};
+ghost use Rattle.trie_context.specs.Rows.{row_of, rows_at, set_of};
+ghost use Rattle.trie_context.specs.Holds.{count_of};
+ghost use Rattle.trie_context.specs.Kept.{AreKept};
+ghost use Rattle.tuple_image.specs.TupleImages.{IsOver};
+ghost use Rattle.term_dict.specs.Dict.{IsOneToOne};
+ghost use Rattle.graph_lines.specs.Walks.{AddsTexts, has_id, key_set, member_behind, row_read, row_text};
+
+use crate::members::add_members;
+use itoa::Buffer;
+use std::alloc::Global;
+use term_dict::Dict;
+use tn_io::Text;
+use trie_context::Tables;
+use trie_depth::Memory;
+
+/// The least row of depth one or two that is not below `from`.
+fn next_row(tables: &Tables, depth: usize, from: usize) -> Option<usize>
+    requires low { 1 ≤ depth }
+    requires high { depth ≤ 2 }
+    ensures none { IsNone result → (r : ℕ) → from ≤ r → row_of tables.now depth r ≡ None }
+    ensures there { IfSome result (λ r. IsSome (row_of tables.now depth r)) }
+    ensures from { IfSome result (λ r. from ≤ r) }
+    ensures least { IfSome result (λ r. (q : ℕ) → from ≤ q → q < r → row_of tables.now depth q ≡ None) }
+{
+    match depth {
+        1 => tables.one.next_row(from),
+        _ => tables.two.next_row(from),
+    }
+}
+
+/// How many slices a row of depth one or two is.
+fn count(tables: &Tables, depth: usize, row: usize) -> u128
+    requires low { 1 ≤ depth }
+    requires high { depth ≤ 2 }
+    requires there { IsSome (row_of tables.now depth row) }
+    ensures { result ≡ count_of (row_of tables.now depth row) }
+{
+    match depth {
+        1 => tables.one.count(row),
+        _ => tables.two.count(row),
+    }
+}
+
+/// Adds each text behind a tab.
+fn push_tabbed(line: &mut Text, texts: &[Text]) -> Result<(), Memory>
+    ensures { OnOk result (line.new ≡ line.old ++ tabbed texts.now) }
+{
+    for text in texts {
+        line.push("\t")?;
+        line.push(text.as_str())?;
+    }
+    Ok(())
+}
+
+fn name_of(depth: usize) -> &'static str
+    ensures { result.now ≡ depth_name depth }
+{
+    if depth == 1 { "one" } else { "two" }
+}
+
+/// The line of a row of this depth and count, whose members have these texts.
+fn line_of(alloc: Global, depth: usize, count: u128, members: Vec<Text>) -> Result<Text, Memory>
+    ensures { IfOk result (λ line. line ≡ depth_name depth ++ codes "\t" ++ decimal count ++ tabbed (in_order members.items)) }
+{
+    let mut members = members;
+    members.sort_unstable();
+    let mut line = Text::of(alloc, name_of(depth))?;
+    line.push("\t")?;
+    line.push(Buffer::new().format(count))?;
+    push_tabbed(&mut line, &members)?;
+    Ok(line)
+}
+
+/// The line of a row of depth one or two.
+fn line_at(
+    alloc: Global,
+    tables: &Tables,
+    depth: usize,
+    row: usize,
+    dict: &Dict,
+) -> Result<Text, Memory>
+    requires kept { (mixed : ℕ → ℕ → ℕ → ℕ → ℕ) × AreKept mixed tables.now }
+    requires low { 1 ≤ depth }
+    requires high { depth ≤ 2 }
+    requires there { IsSome (row_of tables.now depth row) }
+    requires known { IsOver (has_id dict.now) (set_of tables.now depth row) }
+    requires one { IsOneToOne dict.now }
+    ensures { IfOk result (λ line. line ≡ row_line (row_read dict.now tables.now depth row)) }
+{
+    let mut members = Vec::new(alloc);
+    add_members(alloc, tables, depth, row, dict, &mut members)?;
+    line_of(alloc, depth, count(tables, depth, row), members)
+}
+
+/// Adds the line of each row of depth one or two.
+pub(crate) fn add_row_lines(
+    alloc: Global,
+    tables: &Tables,
+    depth: usize,
+    dict: &Dict,
+    lines: &mut Vec<Text>,
+) -> Result<(), Memory>
+    requires kept { (mixed : ℕ → ℕ → ℕ → ℕ → ℕ) × AreKept mixed tables.now }
+    requires low { 1 ≤ depth }
+    requires high { depth ≤ 2 }
+    requires known { (r : ℕ) → IsSome (row_of tables.now depth r) → IsOver (has_id dict.now) (set_of tables.now depth r) }
+    requires one { IsOneToOne dict.now }
+    ensures { OnOk result (AddsTexts (row_text dict.now tables.now depth) (key_set (rows_at tables.now depth)) lines.old.items lines.new.items) }
+{
+    let mut from = 0;
+    loop {
+        let Some(row) = next_row(tables, depth, from) else {
+            return Ok(());
+        };
+        lines.push(line_at(alloc, tables, depth, row, dict)?)?;
+        // No table has so many rows.
+        if row == usize::MAX {
+            return Err(Memory);
+        }
+        from = row + 1;
+    }
+}

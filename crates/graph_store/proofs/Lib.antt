@@ -1,0 +1,13 @@
+pub mod NotedLemmas
+pub mod SortedLemmas
+pub mod TripOrder
+pub mod IdsLemmas
+pub mod FoundLemmas
+pub mod RootLemmas
+pub mod CountLemmas
+pub mod EmptyLemmas
+pub mod TermsLemmas
+pub mod StagingLemmas
+pub mod FullLemmas
+pub mod ForgetLemmas
+pub mod StandsLemmas

@@ -1,0 +1,98 @@
+//! The store, its size and its end.
+ghost use Rattle.std.specs.Prelude.{◌≡◌, ◌≤◌};
+ghost use Rattle.std.specs.FinMap as map;
+ghost use Rattle.std.specs.FinSet as set;
+ghost use Rattle.trie_context.specs.Rows.{no_tables};
+ghost use Rattle.trie_context.specs.Kept.{AreKept};
+ghost use Rattle.graph_store.specs.Proper.{AreProper};
+ghost use Rattle.graph_store.specs.State.{graph, most_triples, IsSettled};
+ghost use Rattle.graph_store.specs.Stands.{Stands};
+
+use crate::lookup::count;
+use std::alloc::Global;
+use std::marker::Model;
+use term_dict::Dict;
+use trie_context::{Context, Root};
+use trie_depth::Mix;
+
+/// How many triples a change put in or took out, and how many there are now.
+#[derive(Clone, Copy, Debug, PartialEq, Eq)]
+pub struct Changed {
+    pub changed: u64,
+    pub now: u64,
+}
+
+/// A graph: a hypertrie over the Ids that the dictionary gives its terms. It must be spent, by `close`.
+pub struct Store<M: Mix> {
+    pub(crate) dict: Dict,
+    pub(crate) ctx: Context<M>,
+    pub(crate) root: Root,
+    pub(crate) max: u64,
+}
+
+impl<M: Mix> Model for Store<M> {
+    ghost use Rattle.graph_store.specs.State.{State, state_code, IsSound};
+
+    ghost Value = { State };
+
+    ghost coded = { state_code };
+
+    ghost view = { λ s. record { dict = s.dict; tables = s.ctx; root = s.root; max = s.max } };
+
+    ghost invariant = { λ s. IsSound s.dict s.ctx s.root s.max };
+}
+
+impl<M: Mix> Store<M> {
+    /// The empty graph, which may have 10,000,000 triples.
+    pub fn new(alloc: Global) -> Store<M>
+        ensures graph { graph result ≡ set.empty }
+        ensures dict { result.dict ≡ map.empty }
+        ensures tables { result.tables ≡ no_tables }
+        ensures max { result.max ≡ 10000000 }
+        ensures settled { IsSettled result }
+    {
+        Store {
+            dict: Dict::new(alloc),
+            ctx: Context::new(alloc),
+            root: Root::Empty,
+            max: 10_000_000,
+        }
+    }
+
+    /// Sets how many triples the graph may have.
+    pub fn set_max(&mut self, max: u64)
+        requires low { 1 ≤ max }
+        requires high { max ≤ most_triples }
+        ensures { self.new ≡ record self.old { max = max } }
+    {
+        self.max = max;
+    }
+
+    /// The number of triples.
+    pub fn triples(&self) -> u64
+        ensures value { result ≡ set.len (graph self.now) }
+        ensures few { result ≤ most_triples }
+        ensures limit { self.now.max ≤ most_triples }
+        ensures proper { AreProper (graph self.now) }
+        ensures kept { AreKept M.mixed self.now.tables }
+        ensures stands { Stands self.now }
+    {
+        // These calls tell the proof that the dictionary is one to one, and that the tables are kept.
+        self.dict.len();
+        count(self.ctx.tables(), &self.root)
+    }
+
+    /// Gives the tables' one hold up, and ends the store.
+    pub fn close(self) {
+        let Store {
+            dict: _,
+            mut ctx,
+            root,
+            max: _,
+        } = self;
+        match root {
+            Root::Many(held) => ctx.release(held),
+            Root::Empty | Root::One(_) => {}
+        }
+    }
+}

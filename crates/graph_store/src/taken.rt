@@ -1,0 +1,154 @@
+//! Triples that are marked, and then deleted together.
+ghost use Rattle.std.specs.Prelude.{◌≡◌, ◌+◌, ◌*◌, ◌≤◌, ℕ, true, false, if◌then◌else◌, IsSome, IfOk, OnOk, OnErr};
+ghost use Rattle.std.specs.FinMap as map;
+ghost use Rattle.std.specs.FinSet as set;
+ghost use Rattle.ntriples.specs.Lent.{lent_triple};
+ghost use Rattle.hypertrie_model.specs.Changes.{IsChange};
+ghost use Rattle.trie_depth.specs.Tuples.{trip_tuple};
+ghost use Rattle.trie_context.specs.Kept.{AreKept};
+ghost use Rattle.trie_context.specs.Roots.{root_set};
+ghost use Rattle.trie_context.specs.RootShape.{OnlyRootHeld};
+ghost use Rattle.trie_update.specs.Batches.{set_of_entries, IsOnce};
+ghost use Rattle.trie_view.specs.Places.{IsRootThere};
+ghost use Rattle.graph_image.specs.Images.{is_among, IsUsed};
+ghost use Rattle.graph_store.specs.State.{graph, most_triples, IsSettled};
+ghost use Rattle.graph_store.specs.Staging.{marked_graph, AreMarked, numbers, AreDistinct};
+ghost use Rattle.graph_store.specs.Forgotten.{Forgets};
+
+use crate::ids::ids_in;
+use crate::lookup::{count, has_triple, is_used};
+use crate::store::{Changed, Store};
+use crate::terms::ids_of;
+use crate::trips::Trips;
+use ntriples::TripleRef;
+use std::alloc::Global;
+use std::marker::Model;
+use std::sync::ledger::Ledger;
+use term_dict::Dict;
+use trie_context::{Context, Root, Tables};
+use trie_depth::{Id, Memory, Mix, Steps, Trip};
+use trie_update::shrink;
+
+/// Triples of a graph that are to go.
+#[derive(Drop)]
+pub struct Taken {
+    trips: Trips,
+}
+
+impl Model for Taken {
+    ghost use Rattle.std.specs.Coded.{coded_list, coded_ℕ};
+    ghost use Rattle.std.specs.FinSet as set;
+    ghost use Rattle.hypertrie_model.specs.IdSets.{IdSet};
+
+    ghost Value = { IdSet };
+
+    ghost coded = { set.code (coded_list coded_ℕ) };
+
+    ghost view = { λ t. t.trips };
+}
+
+impl Taken {
+    pub fn new(alloc: Global) -> Taken
+        ensures { result ≡ set.empty }
+    {
+        Taken {
+            trips: Trips::new(alloc),
+        }
+    }
+}
+
+impl<M: Mix> Store<M> {
+    /// Marks a triple, if the graph has it.
+    pub fn mark(&self, taken: &mut Taken, triple: TripleRef<'_>) -> Result<(), Memory>
+        ensures marked { OnOk result (marked_graph self.now taken.new ≡ (if set.contains (graph self.now) (lent_triple triple.entry) then set.insert (marked_graph self.now taken.old) (lent_triple triple.entry) else marked_graph self.now taken.old)) }
+        ensures there { AreMarked self.now taken.old → AreMarked self.now taken.new }
+        ensures refused { OnErr result (taken.new ≡ taken.old) }
+    {
+        // This call tells the proof that the dictionary is one to one.
+        self.dict.len();
+        let Some(trip) = ids_of(&self.dict, triple) else {
+            return Ok(());
+        };
+        if has_triple(self.ctx.tables(), &self.root, trip) {
+            taken.trips.put(trip)?;
+        }
+        Ok(())
+    }
+
+    /// Takes the marked triples out, and the terms that no triple has any more. On `Memory` the store is as before.
+    pub fn delete<W: Ledger, V: Ledger>(
+        &mut self,
+        alloc: Global,
+        taken: Taken,
+        interns: &mut Steps<W>,
+        retains: &mut Steps<V>,
+    ) -> Result<Changed, Memory>
+        requires settled { IsSettled self.old }
+        requires there { AreMarked self.old taken }
+        ensures graph { OnOk result (graph self.new ≡ set.difference (graph self.old) (marked_graph self.old taken)) }
+        ensures changed { IfOk result (λ change. change.changed ≡ set.len (marked_graph self.old taken)) }
+        ensures now { IfOk result (λ change. change.now ≡ set.len (graph self.new)) }
+        ensures settled { IsSettled self.new }
+        ensures max { self.new.max ≡ self.old.max }
+        ensures kept { OnErr result (self.new ≡ self.old) }
+        ensures ticks { interns.new ≤ interns.old + (9 * set.len (marked_graph self.old taken) + 10) }
+    {
+        // This call tells the proof that the dictionary is one to one.
+        self.dict.len();
+        let Taken { trips } = taken;
+        let batch = trips.listed(alloc)?;
+        let ids = ids_in(alloc, &batch)?;
+        take_out(
+            alloc,
+            &mut self.ctx,
+            &mut self.root,
+            &batch,
+            interns,
+            retains,
+        )?;
+        forget(&mut self.dict, self.ctx.tables(), &self.root, &ids);
+        Ok(Changed {
+            changed: batch.len() as u64,
+            now: count(self.ctx.tables(), &self.root),
+        })
+    }
+}
+
+/// Takes triples out of a graph. On `Memory` nothing has changed.
+fn take_out<M: Mix, W: Ledger, V: Ledger>(
+    alloc: Global,
+    context: &mut Context<M>,
+    root: &mut Root,
+    batch: &[Trip],
+    interns: &mut Steps<W>,
+    retains: &mut Steps<V>,
+) -> Result<(), Memory>
+    requires only { OnlyRootHeld context.old root.old }
+    requires once { IsOnce trip_tuple batch.now }
+    requires there { IsChange false (root_set context.old root.old) (set_of_entries trip_tuple batch.now) }
+    requires few { set.len (root_set context.old root.old) ≤ most_triples }
+    ensures set { OnOk result (root_set context.new root.new ≡ set.difference (root_set context.old root.old) (set_of_entries trip_tuple batch.now)) }
+    ensures only { OnlyRootHeld context.new root.new }
+    ensures tables { OnErr result (context.new ≡ context.old) }
+    ensures root { OnErr result (root.new ≡ root.old) }
+    ensures ticks { interns.new ≤ interns.old + (9 * set.len (set_of_entries trip_tuple batch.now) + 10) }
+{
+    // This call tells the proof that the tables are kept.
+    context.tables();
+    shrink(alloc, context, root, batch, interns, retains)
+}
+
+/// Takes those of the Ids out that no triple of the graph has.
+fn forget(dict: &mut Dict, tables: &Tables, root: &Root, ids: &[Id])
+    requires kept { (mixed : ℕ → ℕ → ℕ → ℕ → ℕ) × AreKept mixed tables.now }
+    requires root { IsRootThere tables.now root.now }
+    requires there { (id : ℕ) → is_among (numbers ids.now) id ≡ true → IsSome (map.get dict.old id) }
+    requires once { AreDistinct (numbers ids.now) }
+    ensures { Forgets dict.old dict.new (numbers ids.now) (IsUsed (root_set tables.now root.now)) }
+{
+    for id in ids {
+        if !is_used(tables, root, *id) {
+            dict.remove(*id);
+        }
+    }
+}

@@ -4,3 +4,4 @@ pub mod MapLemmas
 pub mod DumpLemmas
 pub mod MemberLemmas
 pub mod RowLemmas
+pub mod TriedLemmas

@@ -1,5 +1,5 @@
 //! The rows of the tables as lines: how many slices each is, and its members.
-ghost use Rattle.std.specs.Prelude.{◌≡◌, ℕ, ◌+◌, ◌≤◌, ◌++◌, [], codes, decimal, None, IsSome, IsNone, IfSome, IfOk, OnOk, IsTrue, ◌<◌};
+ghost use Rattle.std.specs.Prelude.{◌≡◌, ℕ, ◌<◌, ◌≤◌, ◌++◌, codes, decimal, None, IsSome, IsNone, IfSome, IfOk, OnOk};
 ghost use Rattle.graph_shape.specs.Sorting.{in_order};
 ghost use Rattle.graph_shape.specs.GraphShapes.{depth_name, tabbed, row_line};
 ghost use Rattle.trie_context.specs.Rows.{row_of, rows_at, set_of};
@@ -7,7 +7,7 @@ ghost use Rattle.trie_context.specs.Holds.{count_of};
 ghost use Rattle.trie_context.specs.Kept.{AreKept};
 ghost use Rattle.tuple_image.specs.TupleImages.{IsOver};
 ghost use Rattle.term_dict.specs.Dict.{IsOneToOne};
-ghost use Rattle.graph_lines.specs.Walks.{AddsTexts, has_id, key_set, member_behind, row_read, row_text};
+ghost use Rattle.graph_lines.specs.Walks.{AddsTexts, has_id, key_set, row_read, row_text};
 
 use crate::members::add_members;
 use itoa::Buffer;
@@ -117,7 +117,7 @@ pub(crate) fn add_row_lines(
             return Ok(());
         };
         lines.push(line_at(alloc, tables, depth, row, dict)?)?;
-        // No table has so many rows.
+        // A table of so many rows takes more memory than there is.
         if row == usize::MAX {
             return Err(Memory);
         }

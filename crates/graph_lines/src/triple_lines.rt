@@ -1,5 +1,5 @@
 //! A graph as the lines of its triples.
-ghost use Rattle.std.specs.Prelude.{◌≡◌, ◌≢◌, ℕ, List, ◌<◌, ◌++◌, map as each, codes, IfSome, IfOk, OnOk};
+ghost use Rattle.std.specs.Prelude.{◌≡◌, ◌≢◌, List, ◌<◌, ◌++◌, map as each, codes, IfSome, IfOk, OnOk};
 ghost use Rattle.std.specs.Ordering.{nat_cmp};
 ghost use Rattle.hypertrie_model.specs.Sets.{empty};
 ghost use Rattle.rdf_model.specs.Terms as model;

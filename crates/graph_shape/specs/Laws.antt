@@ -1,7 +1,8 @@
 -- What the lines of a shape are told from: sorted lines of its rows, and rows over numbers that stand for the terms.
-use Rattle.std.specs.Prelude.{◌≡◌, ◌++◌, ℕ, Bool, List, IsPermutation, map, codes, decimal}
+use Rattle.std.specs.Prelude.{◌≡◌, ◌<◌, ◌++◌, [], ℕ, Bool, List, IsPermutation, map, codes, decimal}
 use Rattle.std.specs.List.Sorted.{IsSorted}
 use Rattle.std.specs.Ordering.{nat_cmp}
+use Rattle.std.specs.FinSet as set
 use Rattle.hypertrie_model.specs.IdSets.{IdSet}
 use Rattle.rdf_model.specs.Terms.{Text, Term}
 use Rattle.rdf_model.specs.Graph.{Graph, term_cmp}
@@ -17,6 +18,10 @@ SortsToShapeLines = (G : Graph) (rows : List GraphRow) (lines : List Text) → A
 abbrev pub SortsToRowLine : Type 0
 SortsToRowLine = (row : GraphRow) (members : List (List Term)) (texts : List Text) → AreMembersOf row.tuples members → IsPermutation (map member_text members) texts → IsSorted text_cmp texts
     → row_line row ≡ depth_name row.depth ++ codes "\t" ++ decimal row.count ++ tabbed texts
+
+-- fewer than two triples have no line
+abbrev pub SmallHaveNoLines : Type 0
+SmallHaveNoLines = (G : Graph) → set.len G < 2 → shape_lines G ≡ []
 
 -- where no two known numbers have one term, the shape of tuples of known numbers, read, is that of the tuples read
 abbrev pub ReadsShapes : Type 0

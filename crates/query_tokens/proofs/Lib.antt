@@ -1,0 +1,3 @@
+pub mod Behind
+pub mod Longest
+pub mod SmallInputs

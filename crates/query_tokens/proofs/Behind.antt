@@ -2,17 +2,18 @@
 use Rattle.std.proofs.Common.{◌≡◌, ◌∙◌, ℕ, Bool, true, false, ◌&&◌, ◌||◌, ◌⊎◌, List, [], ◌∷◌, ◌++◌, refl, sym, ap, subst, inl, inr, append_assoc, arith}
 use Rattle.std.specs.Prelude.{◌==◌}
 use Rattle.std.proofs.lemmas.Bool.Decides.{nat_tests}
+use Rattle.std.proofs.lemmas.List.{append-nil}
 use Rattle.ntriples_model.specs.Characters.{in_ranges}
 use Rattle.query_tokens.specs.Forms.{Form, nothing, one, other, ◌▸◌, ◌∣◌, many, HasForm, IsRepeated, none, next}
-use Rattle.query_tokens.specs.Front.{never, is_optional, same_ranges, same_form, joined, either, behind}
+use Rattle.query_tokens.specs.Front.{never, is_optional, same_ranges, same_form, joined, shared, either, behind}
 
 -- Tests
 
-both : (a b : Bool) → (a && b) ≡ true → (a ≡ true) × (b ≡ true)
+pub both : (a b : Bool) → (a && b) ≡ true → (a ≡ true) × (b ≡ true)
 both true b h = (refl, h)
 both false b h = cc
 
-is_same : (a b : ℕ) → (a == b) ≡ true → a ≡ b
+pub is_same : (a b : ℕ) → (a == b) ≡ true → a ≡ b
 is_same a b h = grind (arith, nat_tests)
 
 pub same_ranges_is : (rs ss : List (ℕ × ℕ)) → same_ranges rs ss ≡ true → rs ≡ ss
@@ -71,28 +72,88 @@ joined_gives (a ▸ b) g text (first, rest, e, ha, h) =
 joined_gives (a ∣ b) g text h = h
 joined_gives (many a) g text h = h
 
+same_head_has : (a b g : Form) (text : List ℕ) → HasForm ((a ▸ b) ∣ g) text → HasForm (elim (same_form a g) [ true ↦ a ▸ (b ∣ nothing) | false ↦ (a ▸ b) ∣ g ]) text
+same_head_has a b g text h =
+    elim (same_form a g) as (λ t. same_form a g ≡ t → HasForm (elim t [ true ↦ a ▸ (b ∣ nothing) | false ↦ (a ▸ b) ∣ g ]) text) [
+      | true ↦ λ t. elim h [
+        | inl (front, back, e, ha, hb) ↦ (front, back, e, ha, inl hb)
+        | inr y ↦ (text, [], sym (append-nil text), subst (λ (k : Form). HasForm k text) (sym (same_form_is a g t)) y, inr refl)
+      ]
+      | false ↦ λ _. h
+    ] refl
+
+same_head_gives : (a b g : Form) (text : List ℕ) → HasForm (elim (same_form a g) [ true ↦ a ▸ (b ∣ nothing) | false ↦ (a ▸ b) ∣ g ]) text → HasForm ((a ▸ b) ∣ g) text
+same_head_gives a b g text h =
+    elim (same_form a g) as (λ t. same_form a g ≡ t → HasForm (elim t [ true ↦ a ▸ (b ∣ nothing) | false ↦ (a ▸ b) ∣ g ]) text → HasForm ((a ▸ b) ∣ g) text) [
+      | true ↦ λ t (front, back, e, ha, hb). elim hb [
+        | inl x ↦ inl (front, back, e, ha, x)
+        | inr y ↦ inr (subst (λ (k : Form). HasForm k text) (same_form_is a g t) (subst (HasForm a) (sym (e ∙ (ap (λ (x : List ℕ). front ++ x) y ∙ append-nil front))) ha))
+      ]
+      | false ↦ λ _ h. h
+    ] refl h
+
+shared_has : (f g : Form) (text : List ℕ) → HasForm (f ∣ g) text → HasForm (shared f g) text
+shared_has (a ▸ b) (c ▸ d) text h =
+    elim (same_form a c) as (λ t. same_form a c ≡ t → HasForm (elim t [ true ↦ a ▸ shared b d | false ↦ (a ▸ b) ∣ (c ▸ d) ]) text) [
+      | true ↦ λ t. elim h [
+        | inl (front, back, e, ha, hb) ↦ (front, back, e, ha, shared_has b d back (inl hb))
+        | inr (front, back, e, hc, hd) ↦ (front, back, e, subst (λ (k : Form). HasForm k front) (sym (same_form_is a c t)) hc, shared_has b d back (inr hd))
+      ]
+      | false ↦ λ _. h
+    ] refl
+shared_has (a ▸ b) nothing text h = same_head_has a b nothing text h
+shared_has (a ▸ b) (one r) text h = same_head_has a b (one r) text h
+shared_has (a ▸ b) (other r) text h = same_head_has a b (other r) text h
+shared_has (a ▸ b) (c ∣ d) text h = same_head_has a b (c ∣ d) text h
+shared_has (a ▸ b) (many c) text h = same_head_has a b (many c) text h
+shared_has nothing g text h = h
+shared_has (one r) g text h = h
+shared_has (other r) g text h = h
+shared_has (a ∣ b) g text h = h
+shared_has (many a) g text h = h
+
+shared_gives : (f g : Form) (text : List ℕ) → HasForm (shared f g) text → HasForm (f ∣ g) text
+shared_gives (a ▸ b) (c ▸ d) text h =
+    elim (same_form a c) as (λ t. same_form a c ≡ t → HasForm (elim t [ true ↦ a ▸ shared b d | false ↦ (a ▸ b) ∣ (c ▸ d) ]) text → HasForm ((a ▸ b) ∣ (c ▸ d)) text) [
+      | true ↦ λ t (front, back, e, ha, h). elim (shared_gives b d back h) [
+        | inl x ↦ inl (front, back, e, ha, x)
+        | inr y ↦ inr (front, back, e, subst (λ (k : Form). HasForm k front) (same_form_is a c t) ha, y)
+      ]
+      | false ↦ λ _ h. h
+    ] refl h
+shared_gives (a ▸ b) nothing text h = same_head_gives a b nothing text h
+shared_gives (a ▸ b) (one r) text h = same_head_gives a b (one r) text h
+shared_gives (a ▸ b) (other r) text h = same_head_gives a b (other r) text h
+shared_gives (a ▸ b) (c ∣ d) text h = same_head_gives a b (c ∣ d) text h
+shared_gives (a ▸ b) (many c) text h = same_head_gives a b (many c) text h
+shared_gives nothing g text h = h
+shared_gives (one r) g text h = h
+shared_gives (other r) g text h = h
+shared_gives (a ∣ b) g text h = h
+shared_gives (many a) g text h = h
+
 pub either_has : (f g : Form) (text : List ℕ) → HasForm (f ∣ g) text → HasForm (either f g) text
 either_has f g text h =
-    elim (same_form f never) as (λ b. same_form f never ≡ b → HasForm (elim b [ true ↦ g | false ↦ elim (same_form g never) [ true ↦ f | false ↦ elim (same_form f g) [ true ↦ f | false ↦ f ∣ g ] ] ]) text) [
+    elim (same_form f never) as (λ b. same_form f never ≡ b → HasForm (elim b [ true ↦ g | false ↦ elim (same_form g never) [ true ↦ f | false ↦ elim (same_form f g) [ true ↦ f | false ↦ shared f g ] ] ]) text) [
       | true ↦ λ b. elim h [ inl x ↦ absurd (never_has text (subst (λ (k : Form). HasForm k text) (same_form_is f never b) x)) | inr y ↦ y ]
-      | false ↦ λ _. elim (same_form g never) as (λ b. same_form g never ≡ b → HasForm (elim b [ true ↦ f | false ↦ elim (same_form f g) [ true ↦ f | false ↦ f ∣ g ] ]) text) [
+      | false ↦ λ _. elim (same_form g never) as (λ b. same_form g never ≡ b → HasForm (elim b [ true ↦ f | false ↦ elim (same_form f g) [ true ↦ f | false ↦ shared f g ] ]) text) [
         | true ↦ λ b. elim h [ inl x ↦ x | inr y ↦ absurd (never_has text (subst (λ (k : Form). HasForm k text) (same_form_is g never b) y)) ]
-        | false ↦ λ _. elim (same_form f g) as (λ b. same_form f g ≡ b → HasForm (elim b [ true ↦ f | false ↦ f ∣ g ]) text) [
+        | false ↦ λ _. elim (same_form f g) as (λ b. same_form f g ≡ b → HasForm (elim b [ true ↦ f | false ↦ shared f g ]) text) [
           | true ↦ λ b. elim h [ inl x ↦ x | inr y ↦ subst (λ (k : Form). HasForm k text) (sym (same_form_is f g b)) y ]
-          | false ↦ λ _. h
+          | false ↦ λ _. shared_has f g text h
         ] refl
       ] refl
     ] refl
 
 pub either_gives : (f g : Form) (text : List ℕ) → HasForm (either f g) text → HasForm (f ∣ g) text
 either_gives f g text =
-    elim (same_form f never) as (λ b. HasForm (elim b [ true ↦ g | false ↦ elim (same_form g never) [ true ↦ f | false ↦ elim (same_form f g) [ true ↦ f | false ↦ f ∣ g ] ] ]) text → HasForm (f ∣ g) text) [
+    elim (same_form f never) as (λ b. HasForm (elim b [ true ↦ g | false ↦ elim (same_form g never) [ true ↦ f | false ↦ elim (same_form f g) [ true ↦ f | false ↦ shared f g ] ] ]) text → HasForm (f ∣ g) text) [
       | true ↦ λ h. inr h
-      | false ↦ elim (same_form g never) as (λ b. HasForm (elim b [ true ↦ f | false ↦ elim (same_form f g) [ true ↦ f | false ↦ f ∣ g ] ]) text → HasForm (f ∣ g) text) [
+      | false ↦ elim (same_form g never) as (λ b. HasForm (elim b [ true ↦ f | false ↦ elim (same_form f g) [ true ↦ f | false ↦ shared f g ] ]) text → HasForm (f ∣ g) text) [
         | true ↦ λ h. inl h
-        | false ↦ elim (same_form f g) as (λ b. HasForm (elim b [ true ↦ f | false ↦ f ∣ g ]) text → HasForm (f ∣ g) text) [
+        | false ↦ elim (same_form f g) as (λ b. HasForm (elim b [ true ↦ f | false ↦ shared f g ]) text → HasForm (f ∣ g) text) [
           | true ↦ λ h. inl h
-          | false ↦ λ h. h
+          | false ↦ shared_gives f g text
         ]
       ]
     ]

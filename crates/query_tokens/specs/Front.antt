@@ -41,11 +41,17 @@ joined (a ▸ b) g = a ▸ joined b g
 joined (a ∣ b) g = (a ∣ b) ▸ g
 joined (many a) g = many a ▸ g
 
+-- A B | A C, written A (B | C), and so on
+abbrev pub shared : Form → Form → Form
+shared (a ▸ b) (c ▸ d) = elim (same_form a c) [ true ↦ a ▸ shared b d | false ↦ (a ▸ b) ∣ (c ▸ d) ]
+shared (a ▸ b) g = elim (same_form a g) [ true ↦ a ▸ (b ∣ nothing) | false ↦ (a ▸ b) ∣ g ]
+shared f g = f ∣ g
+
 -- A | B, in short
 abbrev pub either : Form → Form → Form
 either f g = elim (same_form f never) [
   | true ↦ g
-  | false ↦ elim (same_form g never) [ true ↦ f | false ↦ elim (same_form f g) [ true ↦ f | false ↦ f ∣ g ] ]
+  | false ↦ elim (same_form g never) [ true ↦ f | false ↦ elim (same_form f g) [ true ↦ f | false ↦ shared f g ] ]
 ]
 
 -- what has to follow the character

@@ -161,9 +161,19 @@ kinds = Iri ∷ PnameNs ∷ PnameLn ∷ Label ∷ Var ∷ LangTag ∷ Integer �
 abbrev pub IsToken : Kind → List ℕ → Type 0
 IsToken kind text = HasForm (form_of kind) text
 
--- What stands between tokens: blanks, and comments from `#` up to a line end
+-- What stands between tokens
+
+-- a comment (section 19.4), up to a line end
+abbrev pub comment : Form
+comment = word (codes "#") ▸ many (other (each (0xD ∷ 0xA ∷ [])))
+
+-- WS ::= #x20 | #x9 | #xD | #xA
+abbrev pub blank : Form
+blank = one (each (0x20 ∷ 0x9 ∷ 0xD ∷ 0xA ∷ []))
+
+-- blanks and comments, of which the last may go to the end of the text
 abbrev pub gap : Form
-gap = many (one (each (0x20 ∷ 0x9 ∷ 0xD ∷ 0xA ∷ [])) ∣ word (codes "#") ▸ many (other (each (0xD ∷ 0xA ∷ []))))
+gap = many (blank ∣ comment ▸ one (each (0xD ∷ 0xA ∷ []))) ▸ maybe comment
 
 abbrev pub IsGap : List ℕ → Type 0
 IsGap text = HasForm gap text

@@ -46,32 +46,6 @@ same_form_is _ _ h = cc
 pub never_has : (text : List ℕ) → HasForm never text → ⊥
 never_has text (c, e, h) = cc
 
-pub joined_has : (f g : Form) (text : List ℕ) → HasForm (f ▸ g) text → HasForm (joined f g) text
-joined_has nothing g text (front, back, e, is_empty, h) = subst (HasForm g) (sym (e ∙ ap (λ (x : List ℕ). x ++ back) is_empty)) h
-joined_has (one []) g text (front, back, e, h, _) = absurd (never_has front h)
-joined_has (one (r ∷ rs)) g text h = h
-joined_has (other rs) g text h = h
-joined_has (a ▸ b) g text (front, back, e, (first, second, e2, ha, hb), h) = (
-  first,
-  second ++ back,
-  e ∙ (ap (λ (x : List ℕ). x ++ back) e2 ∙ append_assoc first second back),
-  ha,
-  joined_has b g (second ++ back) (second, back, refl, hb, h),
-)
-joined_has (a ∣ b) g text h = h
-joined_has (many a) g text h = h
-
-pub joined_gives : (f g : Form) (text : List ℕ) → HasForm (joined f g) text → HasForm (f ▸ g) text
-joined_gives nothing g text h = ([], text, refl, refl, h)
-joined_gives (one []) g text h = absurd (never_has text h)
-joined_gives (one (r ∷ rs)) g text h = h
-joined_gives (other rs) g text h = h
-joined_gives (a ▸ b) g text (first, rest, e, ha, h) =
-    let more = joined_gives b g rest h in
-    (first ++ more.0, more.1, e ∙ (ap (λ (x : List ℕ). first ++ x) more.2 ∙ sym (append_assoc first more.0 more.1)), (first, more.0, refl, ha, more.3), more.4)
-joined_gives (a ∣ b) g text h = h
-joined_gives (many a) g text h = h
-
 same_head_has : (a b g : Form) (text : List ℕ) → HasForm ((a ▸ b) ∣ g) text → HasForm (elim (same_form a g) [ true ↦ a ▸ (b ∣ nothing) | false ↦ (a ▸ b) ∣ g ]) text
 same_head_has a b g text h =
     elim (same_form a g) as (λ t. same_form a g ≡ t → HasForm (elim t [ true ↦ a ▸ (b ∣ nothing) | false ↦ (a ▸ b) ∣ g ]) text) [
@@ -157,6 +131,36 @@ either_gives f g text =
         ]
       ]
     ]
+
+pub joined_has : (f g : Form) (text : List ℕ) → HasForm (f ▸ g) text → HasForm (joined f g) text
+joined_has nothing g text (front, back, e, is_empty, h) = subst (HasForm g) (sym (e ∙ ap (λ (x : List ℕ). x ++ back) is_empty)) h
+joined_has (one []) g text (front, back, e, h, _) = absurd (never_has front h)
+joined_has (one (r ∷ rs)) g text h = h
+joined_has (other rs) g text h = h
+joined_has (a ▸ b) g text (front, back, e, (first, second, e2, ha, hb), h) = (
+  first,
+  second ++ back,
+  e ∙ (ap (λ (x : List ℕ). x ++ back) e2 ∙ append_assoc first second back),
+  ha,
+  joined_has b g (second ++ back) (second, back, refl, hb, h),
+)
+joined_has (a ∣ b) g text (front, back, e, inl x, h) = either_has (joined a g) (joined b g) text (inl (joined_has a g text (front, back, e, x, h)))
+joined_has (a ∣ b) g text (front, back, e, inr y, h) = either_has (joined a g) (joined b g) text (inr (joined_has b g text (front, back, e, y, h)))
+joined_has (many a) g text h = h
+
+pub joined_gives : (f g : Form) (text : List ℕ) → HasForm (joined f g) text → HasForm (f ▸ g) text
+joined_gives nothing g text h = ([], text, refl, refl, h)
+joined_gives (one []) g text h = absurd (never_has text h)
+joined_gives (one (r ∷ rs)) g text h = h
+joined_gives (other rs) g text h = h
+joined_gives (a ▸ b) g text (first, rest, e, ha, h) =
+    let more = joined_gives b g rest h in
+    (first ++ more.0, more.1, e ∙ (ap (λ (x : List ℕ). first ++ x) more.2 ∙ sym (append_assoc first more.0 more.1)), (first, more.0, refl, ha, more.3), more.4)
+joined_gives (a ∣ b) g text h =
+    elim (either_gives (joined a g) (joined b g) text h) [
+      | inl x ↦ let parts = joined_gives a g text x in (parts.0, parts.1, parts.2, inl parts.3, parts.4)
+      | inr y ↦ let parts = joined_gives b g text y in (parts.0, parts.1, parts.2, inr parts.3, parts.4) ]
+joined_gives (many a) g text h = h
 
 -- The empty text
 

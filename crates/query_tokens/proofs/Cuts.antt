@@ -127,21 +127,6 @@ at_last test (b ∷ bs) c zero all =
       | false ↦ at_last test bs c zero parts.1
     ]
 
--- the first of some sets of characters that has the character, or else what stands for all others
-abbrev pub first_of : {S : Type 0} → List (List (ℕ × ℕ) × S) → Option S → ℕ → Option S
-first_of [] others c = others
-first_of (m ∷ ms) others c = cond (in_ranges m.0 c) (Some m.1) (first_of ms others c)
-
-abbrev pub move_cuts : {S : Type 0} → List (List (ℕ × ℕ) × S) → List ℕ
-move_cuts [] = []
-move_cuts (m ∷ ms) = cuts_of m.0 ++ move_cuts ms
-
-pub same_first : {S : Type 0} (ms : List (List (ℕ × ℕ) × S)) (others : Option S) (c d : ℕ) → Agree c d (move_cuts ms) → first_of ms others c ≡ first_of ms others d
-same_first [] others c d h = refl
-same_first {S} (m ∷ ms) others c d h =
-    ap (λ b. cond {A = Option S} b (Some m.1) (first_of ms others c)) (same_in_ranges c d m.0 (agree_left c d (cuts_of m.0) (move_cuts ms) h))
-    ∙ ap (λ o. cond {A = Option S} (in_ranges m.0 d) (Some m.1) o) (same_first ms others c d (agree_right c d (cuts_of m.0) (move_cuts ms) h))
-
 -- Forms of kinds, compared
 
 abbrev pub same_forms : {K : Type 0} → (K → ℕ) → List (K × Form) → List (K × Form) → Bool
@@ -164,23 +149,22 @@ same_forms_is {K} number one_to_one (e ∷ es) (f ∷ fs) h =
 same_forms_is number one_to_one [] (f ∷ fs) h = cc
 same_forms_is number one_to_one (e ∷ es) [] h = cc
 
--- the moves lead to what has to follow, at each cut
-abbrev pub leads : {K : Type 0} {S : Type 0} → (K → ℕ) → (Option S → List (K × Form)) → List (K × Form) → List (List (ℕ × ℕ) × S) → Option S → ℕ → Bool
-leads number meant es moves others c = same_forms number (all_behind c es) (meant (first_of moves others c))
+-- what a character is led to is what has to follow it, at 0 and at each cut
+abbrev pub leads : {K : Type 0} → (K → ℕ) → List (K × Form) → (ℕ → List (K × Form)) → ℕ → Bool
+leads number es led c = same_forms number (all_behind c es) (led c)
 
-abbrev pub leads_on : {K : Type 0} {S : Type 0} → (K → ℕ) → (Option S → List (K × Form)) → List (K × Form) → List (List (ℕ × ℕ) × S) → Option S → Bool
-leads_on number meant es moves others =
-    leads number meant es moves others 0 && list_all (leads number meant es moves others) (all_cuts es ++ move_cuts moves)
+abbrev pub leads_on : {K : Type 0} → (K → ℕ) → List (K × Form) → (ℕ → List (K × Form)) → List ℕ → Bool
+leads_on number es led more = leads number es led 0 && list_all (leads number es led) (all_cuts es ++ more)
 
--- so they do at each character
-pub leads_everywhere : {K : Type 0} {S : Type 0} (number : K → ℕ) → OneToOne number → (meant : Option S → List (K × Form)) (es : List (K × Form)) (moves : List (List (ℕ × ℕ) × S)) (others : Option S)
-    → leads_on number meant es moves others ≡ true → (c : ℕ) → meant (first_of moves others c) ≡ all_behind c es
-leads_everywhere number one_to_one meant es moves others h c =
-    let cuts = all_cuts es ++ move_cuts moves in
+-- so it is at each character
+pub leads_everywhere : {K : Type 0} (number : K → ℕ) → OneToOne number → (es : List (K × Form)) (led : ℕ → List (K × Form)) (more : List ℕ)
+    → ((c d : ℕ) → Agree c d more → led c ≡ led d) → leads_on number es led more ≡ true → (c : ℕ) → led c ≡ all_behind c es
+leads_everywhere number one_to_one es led more same h c =
+    let cuts = all_cuts es ++ more in
     let d = last_cut cuts c in
     let agree : Agree c d cuts = agree_last cuts c in
     let parts = both _ _ h in
-    let here : leads number meant es moves others d ≡ true = at_last (leads number meant es moves others) cuts c parts.0 parts.1 in
-    ap meant (same_first moves others c d (agree_right c d (all_cuts es) (move_cuts moves) agree))
-    ∙ (sym (same_forms_is number one_to_one (all_behind d es) (meant (first_of moves others d)) here)
-    ∙ sym (same_all_behind c d es (agree_left c d (all_cuts es) (move_cuts moves) agree)))
+    let here : leads number es led d ≡ true = at_last (leads number es led) cuts c parts.0 parts.1 in
+    same c d (agree_right c d (all_cuts es) more agree)
+    ∙ (sym (same_forms_is number one_to_one (all_behind d es) (led d) here)
+    ∙ sym (same_all_behind c d es (agree_left c d (all_cuts es) more agree)))

@@ -31,16 +31,6 @@ same_form (f ∣ g) (h ∣ k) = same_form f h && same_form g k
 same_form (many f) (many g) = same_form f g
 same_form _ _ = false
 
--- A B, in short
-abbrev pub joined : Form → Form → Form
-joined nothing g = g
-joined (one []) g = one []
-joined (one (r ∷ rs)) g = one (r ∷ rs) ▸ g
-joined (other rs) g = other rs ▸ g
-joined (a ▸ b) g = a ▸ joined b g
-joined (a ∣ b) g = (a ∣ b) ▸ g
-joined (many a) g = many a ▸ g
-
 -- A B | A C, written A (B | C), and so on
 abbrev pub shared : Form → Form → Form
 shared (a ▸ b) (c ▸ d) = elim (same_form a c) [ true ↦ a ▸ shared b d | false ↦ (a ▸ b) ∣ (c ▸ d) ]
@@ -53,6 +43,16 @@ either f g = elim (same_form f never) [
   | true ↦ g
   | false ↦ elim (same_form g never) [ true ↦ f | false ↦ elim (same_form f g) [ true ↦ f | false ↦ shared f g ] ]
 ]
+
+-- A B, in short, and (A | B) C as A C | B C
+abbrev pub joined : Form → Form → Form
+joined nothing g = g
+joined (one []) g = one []
+joined (one (r ∷ rs)) g = one (r ∷ rs) ▸ g
+joined (other rs) g = other rs ▸ g
+joined (a ▸ b) g = a ▸ joined b g
+joined (a ∣ b) g = either (joined a g) (joined b g)
+joined (many a) g = many a ▸ g
 
 -- what has to follow the character
 abbrev pub behind : ℕ → Form → Form

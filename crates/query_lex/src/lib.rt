@@ -1,0 +1,9 @@
+//! The tokens of a query's text.
+#![tactic(auto)]
+
+mod classes;
+mod state;
+mod step;
+mod token;
+
+pub use token::{LexFault, Token, TokenKind};

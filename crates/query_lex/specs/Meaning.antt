@@ -1,17 +1,21 @@
 -- What may follow where so much of a token was read.
 use Rattle.std.specs.Prelude.{ℕ, List, [], ◌∷◌, ◌++◌, Option, Some, None, codes}
 use Rattle.query_tokens.specs.Forms.{Form}
-use Rattle.query_tokens.specs.Tokens.{Kind, kinds}
+use Rattle.query_tokens.specs.Tokens.{Kind, Iri, PnameNs, PnameLn, Label, Var, LangTag, Integer, Decimal, Double, SignedInteger, SignedDecimal, SignedDouble, Str, Word, Mark, kinds}
 use Rattle.query_tokens.specs.Front.{all_behind, forms_of}
 use Rattle.query_lex.specs.Steps.{code_of}
-use Rattle.query_lex.specs.declared.state.Quote.{Quote}
-use Rattle.query_lex.specs.declared.state.Quote.TheVariants as quote
 use Rattle.query_lex.specs.declared.state.Body.{Body}
 use Rattle.query_lex.specs.declared.state.Body.TheVariants as body
 use Rattle.query_lex.specs.declared.state.Digits.{Digits}
 use Rattle.query_lex.specs.declared.state.Digits.TheVariants as left
 use Rattle.query_lex.specs.declared.state.Sign.{Sign}
 use Rattle.query_lex.specs.declared.state.Sign.TheVariants as sign
+use Rattle.query_lex.specs.declared.state.Quoted.TheVariants as quoted
+use Rattle.query_lex.specs.declared.state.Named.TheVariants as named
+use Rattle.query_lex.specs.declared.state.Tagged.TheVariants as tagged
+use Rattle.query_lex.specs.declared.state.Number.{Number}
+use Rattle.query_lex.specs.declared.state.Number.TheVariants as number
+use Rattle.query_lex.specs.declared.state.Prefixed.TheVariants as prefixed
 use Rattle.query_lex.specs.declared.state.State.{State}
 use Rattle.query_lex.specs.declared.state.State.TheVariants as state
 
@@ -42,50 +46,78 @@ signed sign.Present text = 45 ∷ text
 -- a text that was read so
 abbrev pub example : State → List ℕ
 example state.Start = []
-example (state.Within b) = opening b
-example (state.Backslash b) = opening b ++ codes "\\"
-example (state.Escape b n) = opening b ++ escape n
+example (state.Quoted (quoted.Within b)) = opening b
+example (state.Quoted (quoted.Backslash b)) = opening b ++ codes "\\"
+example (state.Quoted (quoted.Escape b n)) = opening b ++ escape n
 example state.IriEnd = codes "<>"
-example (state.Opened q) = code_of q ∷ []
-example (state.OpenedTwice q) = code_of q ∷ code_of q ∷ []
-example (state.Closed q) = code_of q ∷ code_of q ∷ code_of q ∷ code_of q ∷ []
-example (state.ClosedTwice q) = code_of q ∷ code_of q ∷ code_of q ∷ code_of q ∷ code_of q ∷ []
+example (state.Quoted (quoted.Opened q)) = code_of q ∷ []
+example (state.Quoted (quoted.OpenedTwice q)) = code_of q ∷ code_of q ∷ []
+example (state.Quoted (quoted.Closed q)) = code_of q ∷ code_of q ∷ code_of q ∷ code_of q ∷ []
+example (state.Quoted (quoted.ClosedTwice q)) = code_of q ∷ code_of q ∷ code_of q ∷ code_of q ∷ code_of q ∷ []
 example state.StringEnd = codes "' '"
-example state.VarMark = codes "?"
-example state.Var = codes "?a"
-example state.Underscore = codes "_"
-example state.LabelMark = codes "_:"
-example state.Label = codes "_:a"
-example state.LabelStop = codes "_:a."
-example state.TagMark = codes "@"
-example state.Tag = codes "@a"
-example state.TagDash = codes "@a-"
-example state.Subtag = codes "@a-a"
+example (state.Named named.VarMark) = codes "?"
+example (state.Named named.Var) = codes "?a"
+example (state.Named named.Underscore) = codes "_"
+example (state.Named named.LabelMark) = codes "_:"
+example (state.Named named.Label) = codes "_:a"
+example (state.Named named.LabelStop) = codes "_:a."
+example (state.Tagged tagged.Mark) = codes "@"
+example (state.Tagged tagged.Letters) = codes "@a"
+example (state.Tagged tagged.Dash) = codes "@a-"
+example (state.Tagged tagged.Subtag) = codes "@a-a"
 example state.Sign = codes "-"
 example state.Stop = codes "."
 example state.SignStop = codes "-."
-example (state.Integer s) = signed s (codes "1")
-example (state.IntegerStop s) = signed s (codes "1.")
-example (state.Decimal s) = signed s (codes "1.1")
-example (state.Exponent s) = signed s (codes "1e")
-example (state.ExponentSign s) = signed s (codes "1e-")
-example (state.Double s) = signed s (codes "1e1")
-example state.Word = codes "a"
-example state.Prefix = codes "a1"
-example state.PrefixStop = codes "a."
-example state.Colon = codes ":"
-example state.Local = codes ":a"
-example state.LocalStop = codes ":a."
-example state.Percent = codes ":%"
-example state.PercentDigit = codes ":%0"
-example state.LocalBackslash = codes ":\\"
+example (state.Number s number.Integer) = signed s (codes "1")
+example (state.Number s number.IntegerStop) = signed s (codes "1.")
+example (state.Number s number.Decimal) = signed s (codes "1.1")
+example (state.Number s number.Exponent) = signed s (codes "1e")
+example (state.Number s number.ExponentSign) = signed s (codes "1e-")
+example (state.Number s number.Double) = signed s (codes "1e1")
+example (state.Prefixed prefixed.Word) = codes "a"
+example (state.Prefixed prefixed.Prefix) = codes "a1"
+example (state.Prefixed prefixed.PrefixStop) = codes "a."
+example (state.Prefixed prefixed.Colon) = codes ":"
+example (state.Prefixed prefixed.Local) = codes ":a"
+example (state.Prefixed prefixed.LocalStop) = codes ":a."
+example (state.Prefixed prefixed.Percent) = codes ":%"
+example (state.Prefixed prefixed.PercentDigit) = codes ":%0"
+example (state.Prefixed prefixed.Backslash) = codes ":\\"
 example state.Caret = codes "^"
 example state.MarkEnd = codes ";"
 
+-- the kind of what was read, where it is a token
+abbrev pub number_kind : Sign → Number → Option Kind
+number_kind sign.Absent number.Integer = Some Integer
+number_kind sign.Absent number.Decimal = Some Decimal
+number_kind sign.Absent number.Double = Some Double
+number_kind sign.Present number.Integer = Some SignedInteger
+number_kind sign.Present number.Decimal = Some SignedDecimal
+number_kind sign.Present number.Double = Some SignedDouble
+number_kind s number.IntegerStop = None
+number_kind s number.Exponent = None
+number_kind s number.ExponentSign = None
+
+abbrev pub kind_read : State → Option Kind
+kind_read (state.Quoted (quoted.OpenedTwice q)) = Some Str
+kind_read state.IriEnd = Some Iri
+kind_read state.StringEnd = Some Str
+kind_read (state.Named named.Var) = Some Var
+kind_read (state.Named named.Label) = Some Label
+kind_read (state.Tagged tagged.Letters) = Some LangTag
+kind_read (state.Tagged tagged.Subtag) = Some LangTag
+kind_read state.Stop = Some Mark
+kind_read (state.Number s n) = number_kind s n
+kind_read (state.Prefixed prefixed.Word) = Some Word
+kind_read (state.Prefixed prefixed.Colon) = Some PnameNs
+kind_read (state.Prefixed prefixed.Local) = Some PnameLn
+kind_read state.MarkEnd = Some Mark
+kind_read _ = None
+
 -- the forms of what may follow, each with the kind that the token then has
-abbrev pub to_follow : State → List (Kind × Form)
+unfoldable pub to_follow : State → List (Kind × Form)
 to_follow state = behind_all (example state) (forms_of kinds)
 
-abbrev pub to_follow_any : Option State → List (Kind × Form)
+unfoldable pub to_follow_any : Option State → List (Kind × Form)
 to_follow_any None = []
 to_follow_any (Some state) = to_follow state

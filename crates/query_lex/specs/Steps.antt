@@ -11,6 +11,11 @@ use Rattle.query_lex.specs.declared.state.Digits.{Digits}
 use Rattle.query_lex.specs.declared.state.Digits.TheVariants as left
 use Rattle.query_lex.specs.declared.state.Sign.{Sign}
 use Rattle.query_lex.specs.declared.state.Sign.TheVariants as sign
+use Rattle.query_lex.specs.declared.state.Quoted.TheVariants as quoted
+use Rattle.query_lex.specs.declared.state.Named.TheVariants as named
+use Rattle.query_lex.specs.declared.state.Tagged.TheVariants as tagged
+use Rattle.query_lex.specs.declared.state.Number.TheVariants as number
+use Rattle.query_lex.specs.declared.state.Prefixed.TheVariants as prefixed
 use Rattle.query_lex.specs.declared.state.State.{State}
 use Rattle.query_lex.specs.declared.state.State.TheVariants as state
 
@@ -75,98 +80,98 @@ code_of quote.Double = 0x22
 
 abbrev pub start_moves : Moves
 start_moves =
-    to (One (codes "<")) (state.Within body.Iri)
-    (to (One (codes "'")) (state.Opened quote.Single)
-    (to (One (codes "\"")) (state.Opened quote.Double)
-    (to (One (codes "?$")) state.VarMark
-    (to (One (codes "_")) state.Underscore
-    (to (One (codes "@")) state.TagMark
+    to (One (codes "<")) (state.Quoted (quoted.Within body.Iri))
+    (to (One (codes "'")) (state.Quoted (quoted.Opened quote.Single))
+    (to (One (codes "\"")) (state.Quoted (quoted.Opened quote.Double))
+    (to (One (codes "?$")) (state.Named named.VarMark)
+    (to (One (codes "_")) (state.Named named.Underscore)
+    (to (One (codes "@")) (state.Tagged tagged.Mark)
     (to (One (codes "+-")) state.Sign
     (to (One (codes ".")) state.Stop
-    (to Digit (state.Integer sign.Absent)
-    (to (One (codes ":")) state.Colon
+    (to Digit (state.Number sign.Absent number.Integer)
+    (to (One (codes ":")) (state.Prefixed prefixed.Colon)
     (to (One (codes "^")) state.Caret
     (to (One (codes "{}[];,*")) state.MarkEnd
-    (to Letter state.Word
-    (to PrefixStart state.Prefix stop)))))))))))))
+    (to Letter (state.Prefixed prefixed.Word)
+    (to PrefixStart (state.Prefixed prefixed.Prefix) stop)))))))))))))
 
 abbrev pub within_moves : Body → Moves
 within_moves body.Iri =
     to (One (codes ">")) state.IriEnd
-    (to (One (codes "\\")) (state.Backslash body.Iri)
-    (except OutsideIri (rest (state.Within body.Iri))))
+    (to (One (codes "\\")) (state.Quoted (quoted.Backslash body.Iri))
+    (except OutsideIri (rest (state.Quoted (quoted.Within body.Iri)))))
 within_moves (body.Short q) =
     to (One (code_of q ∷ [])) state.StringEnd
-    (to (One (codes "\\")) (state.Backslash (body.Short q))
-    (except (One (0xA ∷ 0xD ∷ [])) (rest (state.Within (body.Short q)))))
+    (to (One (codes "\\")) (state.Quoted (quoted.Backslash (body.Short q)))
+    (except (One (0xA ∷ 0xD ∷ [])) (rest (state.Quoted (quoted.Within (body.Short q))))))
 within_moves (body.Long q) =
-    to (One (code_of q ∷ [])) (state.Closed q)
-    (to (One (codes "\\")) (state.Backslash (body.Long q))
-    (rest (state.Within (body.Long q))))
+    to (One (code_of q ∷ [])) (state.Quoted (quoted.Closed q))
+    (to (One (codes "\\")) (state.Quoted (quoted.Backslash (body.Long q)))
+    (rest (state.Quoted (quoted.Within (body.Long q)))))
 
 abbrev pub number_moves : Body → Moves
 number_moves b =
-    to (One (codes "u")) (state.Escape b left.Four)
-    (to (One (codes "U")) (state.Escape b left.Eight) stop)
+    to (One (codes "u")) (state.Quoted (quoted.Escape b left.Four))
+    (to (One (codes "U")) (state.Quoted (quoted.Escape b left.Eight)) stop)
 
 abbrev pub backslash_moves : Body → Moves
 backslash_moves body.Iri = number_moves body.Iri
-backslash_moves (body.Short q) = to (One (codes "tbnrf\"'\\")) (state.Within (body.Short q)) (number_moves (body.Short q))
-backslash_moves (body.Long q) = to (One (codes "tbnrf\"'\\")) (state.Within (body.Long q)) (number_moves (body.Long q))
+backslash_moves (body.Short q) = to (One (codes "tbnrf\"'\\")) (state.Quoted (quoted.Within (body.Short q))) (number_moves (body.Short q))
+backslash_moves (body.Long q) = to (One (codes "tbnrf\"'\\")) (state.Quoted (quoted.Within (body.Long q))) (number_moves (body.Long q))
 
 -- behind one of so many digits
 abbrev pub behind_digit : Body → Digits → State
-behind_digit b left.One = state.Within b
-behind_digit b left.Two = state.Escape b left.One
-behind_digit b left.Three = state.Escape b left.Two
-behind_digit b left.Four = state.Escape b left.Three
-behind_digit b left.Five = state.Escape b left.Four
-behind_digit b left.Six = state.Escape b left.Five
-behind_digit b left.Seven = state.Escape b left.Six
-behind_digit b left.Eight = state.Escape b left.Seven
+behind_digit b left.One = state.Quoted (quoted.Within b)
+behind_digit b left.Two = state.Quoted (quoted.Escape b left.One)
+behind_digit b left.Three = state.Quoted (quoted.Escape b left.Two)
+behind_digit b left.Four = state.Quoted (quoted.Escape b left.Three)
+behind_digit b left.Five = state.Quoted (quoted.Escape b left.Four)
+behind_digit b left.Six = state.Quoted (quoted.Escape b left.Five)
+behind_digit b left.Seven = state.Quoted (quoted.Escape b left.Six)
+behind_digit b left.Eight = state.Quoted (quoted.Escape b left.Seven)
 
 abbrev pub exponent_or : Sign → Moves → Moves
-exponent_or s others = to (One (codes "eE")) (state.Exponent s) others
+exponent_or s others = to (One (codes "eE")) (state.Number s number.Exponent) others
 
 abbrev pub moves : State → Moves
 moves state.Start = start_moves
-moves (state.Within b) = within_moves b
-moves (state.Backslash b) = backslash_moves b
-moves (state.Escape b n) = to Hex (behind_digit b n) stop
+moves (state.Quoted (quoted.Within b)) = within_moves b
+moves (state.Quoted (quoted.Backslash b)) = backslash_moves b
+moves (state.Quoted (quoted.Escape b n)) = to Hex (behind_digit b n) stop
 moves state.IriEnd = stop
-moves (state.Opened q) = to (One (code_of q ∷ [])) (state.OpenedTwice q) (within_moves (body.Short q))
-moves (state.OpenedTwice q) = to (One (code_of q ∷ [])) (state.Within (body.Long q)) stop
-moves (state.Closed q) = to (One (code_of q ∷ [])) (state.ClosedTwice q) (within_moves (body.Long q))
-moves (state.ClosedTwice q) = to (One (code_of q ∷ [])) state.StringEnd (within_moves (body.Long q))
+moves (state.Quoted (quoted.Opened q)) = to (One (code_of q ∷ [])) (state.Quoted (quoted.OpenedTwice q)) (within_moves (body.Short q))
+moves (state.Quoted (quoted.OpenedTwice q)) = to (One (code_of q ∷ [])) (state.Quoted (quoted.Within (body.Long q))) stop
+moves (state.Quoted (quoted.Closed q)) = to (One (code_of q ∷ [])) (state.Quoted (quoted.ClosedTwice q)) (within_moves (body.Long q))
+moves (state.Quoted (quoted.ClosedTwice q)) = to (One (code_of q ∷ [])) state.StringEnd (within_moves (body.Long q))
 moves state.StringEnd = stop
-moves state.VarMark = to NameStart state.Var stop
-moves state.Var = to VarChar state.Var stop
-moves state.Underscore = to (One (codes ":")) state.LabelMark stop
-moves state.LabelMark = to NameStart state.Label stop
-moves state.Label = to PrefixChar state.Label (to (One (codes ".")) state.LabelStop stop)
-moves state.LabelStop = to PrefixChar state.Label (to (One (codes ".")) state.LabelStop stop)
-moves state.TagMark = to Letter state.Tag stop
-moves state.Tag = to Letter state.Tag (to (One (codes "-")) state.TagDash stop)
-moves state.TagDash = to LetterOrDigit state.Subtag stop
-moves state.Subtag = to LetterOrDigit state.Subtag (to (One (codes "-")) state.TagDash stop)
-moves state.Sign = to Digit (state.Integer sign.Present) (to (One (codes ".")) state.SignStop stop)
-moves state.Stop = to Digit (state.Decimal sign.Absent) stop
-moves state.SignStop = to Digit (state.Decimal sign.Present) stop
-moves (state.Integer s) = to Digit (state.Integer s) (to (One (codes ".")) (state.IntegerStop s) (exponent_or s stop))
-moves (state.IntegerStop s) = to Digit (state.Decimal s) (exponent_or s stop)
-moves (state.Decimal s) = to Digit (state.Decimal s) (exponent_or s stop)
-moves (state.Exponent s) = to Digit (state.Double s) (to (One (codes "+-")) (state.ExponentSign s) stop)
-moves (state.ExponentSign s) = to Digit (state.Double s) stop
-moves (state.Double s) = to Digit (state.Double s) stop
-moves state.Word = to Letter state.Word (to PrefixChar state.Prefix (to (One (codes ".")) state.PrefixStop (to (One (codes ":")) state.Colon stop)))
-moves state.Prefix = to PrefixChar state.Prefix (to (One (codes ".")) state.PrefixStop (to (One (codes ":")) state.Colon stop))
-moves state.PrefixStop = to PrefixChar state.Prefix (to (One (codes ".")) state.PrefixStop stop)
-moves state.Colon = to LocalStart state.Local (to (One (codes "%")) state.Percent (to (One (codes "\\")) state.LocalBackslash stop))
-moves state.Local = to LocalChar state.Local (to (One (codes ".")) state.LocalStop (to (One (codes "%")) state.Percent (to (One (codes "\\")) state.LocalBackslash stop)))
-moves state.LocalStop = to LocalChar state.Local (to (One (codes ".")) state.LocalStop (to (One (codes "%")) state.Percent (to (One (codes "\\")) state.LocalBackslash stop)))
-moves state.Percent = to Hex state.PercentDigit stop
-moves state.PercentDigit = to Hex state.Local stop
-moves state.LocalBackslash = to (One (codes "_~.!$&'()*+,;=/?#@%-")) state.Local stop
+moves (state.Named named.VarMark) = to NameStart (state.Named named.Var) stop
+moves (state.Named named.Var) = to VarChar (state.Named named.Var) stop
+moves (state.Named named.Underscore) = to (One (codes ":")) (state.Named named.LabelMark) stop
+moves (state.Named named.LabelMark) = to NameStart (state.Named named.Label) stop
+moves (state.Named named.Label) = to PrefixChar (state.Named named.Label) (to (One (codes ".")) (state.Named named.LabelStop) stop)
+moves (state.Named named.LabelStop) = to PrefixChar (state.Named named.Label) (to (One (codes ".")) (state.Named named.LabelStop) stop)
+moves (state.Tagged tagged.Mark) = to Letter (state.Tagged tagged.Letters) stop
+moves (state.Tagged tagged.Letters) = to Letter (state.Tagged tagged.Letters) (to (One (codes "-")) (state.Tagged tagged.Dash) stop)
+moves (state.Tagged tagged.Dash) = to LetterOrDigit (state.Tagged tagged.Subtag) stop
+moves (state.Tagged tagged.Subtag) = to LetterOrDigit (state.Tagged tagged.Subtag) (to (One (codes "-")) (state.Tagged tagged.Dash) stop)
+moves state.Sign = to Digit (state.Number sign.Present number.Integer) (to (One (codes ".")) state.SignStop stop)
+moves state.Stop = to Digit (state.Number sign.Absent number.Decimal) stop
+moves state.SignStop = to Digit (state.Number sign.Present number.Decimal) stop
+moves (state.Number s number.Integer) = to Digit (state.Number s number.Integer) (to (One (codes ".")) (state.Number s number.IntegerStop) (exponent_or s stop))
+moves (state.Number s number.IntegerStop) = to Digit (state.Number s number.Decimal) (exponent_or s stop)
+moves (state.Number s number.Decimal) = to Digit (state.Number s number.Decimal) (exponent_or s stop)
+moves (state.Number s number.Exponent) = to Digit (state.Number s number.Double) (to (One (codes "+-")) (state.Number s number.ExponentSign) stop)
+moves (state.Number s number.ExponentSign) = to Digit (state.Number s number.Double) stop
+moves (state.Number s number.Double) = to Digit (state.Number s number.Double) stop
+moves (state.Prefixed prefixed.Word) = to Letter (state.Prefixed prefixed.Word) (to PrefixChar (state.Prefixed prefixed.Prefix) (to (One (codes ".")) (state.Prefixed prefixed.PrefixStop) (to (One (codes ":")) (state.Prefixed prefixed.Colon) stop)))
+moves (state.Prefixed prefixed.Prefix) = to PrefixChar (state.Prefixed prefixed.Prefix) (to (One (codes ".")) (state.Prefixed prefixed.PrefixStop) (to (One (codes ":")) (state.Prefixed prefixed.Colon) stop))
+moves (state.Prefixed prefixed.PrefixStop) = to PrefixChar (state.Prefixed prefixed.Prefix) (to (One (codes ".")) (state.Prefixed prefixed.PrefixStop) stop)
+moves (state.Prefixed prefixed.Colon) = to LocalStart (state.Prefixed prefixed.Local) (to (One (codes "%")) (state.Prefixed prefixed.Percent) (to (One (codes "\\")) (state.Prefixed prefixed.Backslash) stop))
+moves (state.Prefixed prefixed.Local) = to LocalChar (state.Prefixed prefixed.Local) (to (One (codes ".")) (state.Prefixed prefixed.LocalStop) (to (One (codes "%")) (state.Prefixed prefixed.Percent) (to (One (codes "\\")) (state.Prefixed prefixed.Backslash) stop)))
+moves (state.Prefixed prefixed.LocalStop) = to LocalChar (state.Prefixed prefixed.Local) (to (One (codes ".")) (state.Prefixed prefixed.LocalStop) (to (One (codes "%")) (state.Prefixed prefixed.Percent) (to (One (codes "\\")) (state.Prefixed prefixed.Backslash) stop)))
+moves (state.Prefixed prefixed.Percent) = to Hex (state.Prefixed prefixed.PercentDigit) stop
+moves (state.Prefixed prefixed.PercentDigit) = to Hex (state.Prefixed prefixed.Local) stop
+moves (state.Prefixed prefixed.Backslash) = to (One (codes "_~.!$&'()*+,;=/?#@%-")) (state.Prefixed prefixed.Local) stop
 moves state.Caret = to (One (codes "^")) state.MarkEnd stop
 moves state.MarkEnd = stop
 

@@ -37,19 +37,15 @@ pub(crate) enum Sign {
     Present,
 }
 
-/// What was read of a token.
+/// A part of an IRI or a string.
 #[derive(Clone, Copy)]
-pub(crate) enum State {
-    /// Nothing.
-    Start,
-    /// An IRI or a string up to somewhere in it.
+pub(crate) enum Quoted {
+    /// Up to somewhere in it.
     Within(Body),
     /// The same, and a backslash.
     Backslash(Body),
     /// The same, and an escape by number up to somewhere in it.
     Escape(Body, Digits),
-    /// An IRI.
-    IriEnd,
     /// A quote.
     Opened(Quote),
     /// Two quotes: the empty string, or the beginning of a long one.
@@ -58,8 +54,11 @@ pub(crate) enum State {
     Closed(Quote),
     /// A long string up to two quotes.
     ClosedTwice(Quote),
-    /// A string.
-    StringEnd,
+}
+
+/// A part of a variable or of a label.
+#[derive(Clone, Copy)]
+pub(crate) enum Named {
     /// `?` or `$`.
     VarMark,
     /// A variable.
@@ -72,32 +71,38 @@ pub(crate) enum State {
     Label,
     /// A label and full stops.
     LabelStop,
+}
+
+/// A part of a language tag.
+#[derive(Clone, Copy)]
+pub(crate) enum Tagged {
     /// `@`.
-    TagMark,
-    /// A language tag of letters.
-    Tag,
-    /// A language tag and `-`.
-    TagDash,
-    /// A language tag with further parts.
+    Mark,
+    /// A tag of letters.
+    Letters,
+    /// A tag and `-`.
+    Dash,
+    /// A tag with further parts.
     Subtag,
-    /// `+` or `-`.
-    Sign,
-    /// `.`.
-    Stop,
-    /// A sign and `.`.
-    SignStop,
-    /// An integer.
-    Integer(Sign),
-    /// An integer and `.`.
-    IntegerStop(Sign),
-    /// A decimal.
-    Decimal(Sign),
+}
+
+/// A part of a number behind its sign.
+#[derive(Clone, Copy)]
+pub(crate) enum Number {
+    Integer,
+    /// An integer and a full stop.
+    IntegerStop,
+    Decimal,
     /// A number, then `e` or `E`.
-    Exponent(Sign),
+    Exponent,
     /// The same and a sign.
-    ExponentSign(Sign),
-    /// A double.
-    Double(Sign),
+    ExponentSign,
+    Double,
+}
+
+/// A word, or a part of a prefixed name.
+#[derive(Clone, Copy)]
+pub(crate) enum Prefixed {
     /// Letters of ASCII: a word, or the beginning of a prefix.
     Word,
     /// A prefix up to a character that may end it.
@@ -106,16 +111,38 @@ pub(crate) enum State {
     PrefixStop,
     /// A prefix with its colon.
     Colon,
-    /// A prefixed name.
+    /// A whole name.
     Local,
-    /// A prefixed name and full stops.
+    /// A name and full stops.
     LocalStop,
-    /// A prefixed name up to a `%`.
+    /// A name up to a `%`.
     Percent,
     /// The same and a hexadecimal digit.
     PercentDigit,
-    /// A prefixed name up to a backslash.
-    LocalBackslash,
+    /// A name up to a backslash.
+    Backslash,
+}
+
+/// What was read of a token.
+#[derive(Clone, Copy)]
+pub(crate) enum State {
+    /// Nothing.
+    Start,
+    Quoted(Quoted),
+    /// An IRI.
+    IriEnd,
+    /// A string.
+    StringEnd,
+    Named(Named),
+    Tagged(Tagged),
+    /// `+` or `-`.
+    Sign,
+    /// A full stop.
+    Stop,
+    /// A sign and a full stop.
+    SignStop,
+    Number(Sign, Number),
+    Prefixed(Prefixed),
     /// `^`.
     Caret,
     /// A mark.

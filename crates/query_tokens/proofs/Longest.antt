@@ -136,11 +136,14 @@ all_kinds Str = inr (inr (inr (inr (inr (inr (inr (inr (inr (inr (inr (inr (inl 
 all_kinds Word = inr (inr (inr (inr (inr (inr (inr (inr (inr (inr (inr (inr (inr (inl refl)))))))))))))
 all_kinds Mark = inr (inr (inr (inr (inr (inr (inr (inr (inr (inr (inr (inr (inr (inr (inl refl))))))))))))))
 
+pub token_is : (kind : Kind) (text : List ℕ) → IsToken kind text → Is (forms_of kinds) kind text
+token_is kind text h = by_kind kinds kind text (all_kinds kind) h
+
 pub finds_tokens : FindsTokens
 unfolding token_at
 finds_tokens = record {
   found = λ text kind n h. (let found = longest_found (forms_of kinds) text kind n h in (found.0, of_kind kinds kind (take n text) found.1));
-  longest = λ kind token rest h. longest_longest (forms_of kinds) kind token rest (by_kind kinds kind token (all_kinds kind) h);
+  longest = λ kind token rest h. longest_longest (forms_of kinds) kind token rest (token_is kind token h);
 }
 
 gap_found : (o : Option (ℕ × ℕ)) (text : List ℕ) → ((found : ℕ × ℕ) × (o ≡ Some found) × (0 ≤ found.1))

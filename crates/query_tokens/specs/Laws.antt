@@ -12,3 +12,7 @@ pub record FindsTokens : Type 0 where
 pub record FindsGaps : Type 0 where
   pub found : (text : List ℕ) → (gap_at text ≤ length text) × IsGap (take (gap_at text) text)
   pub longest : (gap rest : List ℕ) → IsGap gap → length gap ≤ gap_at (gap ++ rest)
+
+-- No text is a token of two kinds.
+abbrev pub OneKind : Type 0
+OneKind = (kind other : Kind) (text : List ℕ) → IsToken kind text → IsToken other text → kind ≡ other

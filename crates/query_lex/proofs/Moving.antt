@@ -313,11 +313,14 @@ all_kinds_of kind [] k h is = absurd is
 all_kinds_of kind (e ∷ es) k h is =
     elim (is_optional e.1) as (λ b. is_optional e.1 ≡ b → elim b as (λ _. Bool) [ true ↦ is_number (number_of e.0) kind && all_of kind es | false ↦ all_of kind es ] ≡ true → kind ≡ Some k) [
       | true ↦ λ b h. elim is [
-          | inl x ↦ is_kind (number_of e.0) kind k (both _ _ h).0 (ap number_of x.0)
-          | inr y ↦ all_kinds_of kind es k (both _ _ h).1 y ]
+        | inl x ↦ is_kind (number_of e.0) kind k (both _ _ h).0 (ap number_of x.0)
+        | inr y ↦ all_kinds_of kind es k (both _ _ h).1 y
+      ]
       | false ↦ λ b h. elim is [
-          | inl x ↦ let t : is_optional e.1 ≡ true = has_optional e.1 x.1 in absurd cc
-          | inr y ↦ all_kinds_of kind es k h y ] ] refl h
+        | inl x ↦ let t : is_optional e.1 ≡ true = has_optional e.1 x.1 in absurd cc
+        | inr y ↦ all_kinds_of kind es k h y
+      ]
+    ] refl h
 
 one_kind_each : (state : State) → all_of (kind_read state) (to_follow state) ≡ true
 unfolding to_follow
@@ -437,7 +440,8 @@ same_kind state j k (c ∷ text) hj hk =
       | None ↦ λ e. absurd (nothing_follows j text (subst (λ (es : List (Kind × Form)). Is es j text) (sym e) (all_behind_is (to_follow state) j c text hj)))
       | Some next ↦ λ e. same_kind next j k text
           (follows next j text (subst (λ (es : List (Kind × Form)). Is es j text) (sym e) (all_behind_is (to_follow state) j c text hj)))
-          (follows next k text (subst (λ (es : List (Kind × Form)). Is es k text) (sym e) (all_behind_is (to_follow state) k c text hk))) ] (step_meant state c)
+          (follows next k text (subst (λ (es : List (Kind × Form)). Is es k text) (sym e) (all_behind_is (to_follow state) k c text hk)))
+    ] (step_meant state c)
 
 from_start : (kind : Kind) (text : List ℕ) → Is (forms_of kinds) kind text → Is (to_follow state.Start) kind text
 unfolding to_follow

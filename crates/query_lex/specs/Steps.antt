@@ -11,10 +11,15 @@ use Rattle.query_lex.specs.declared.state.Digits.{Digits}
 use Rattle.query_lex.specs.declared.state.Digits.TheVariants as left
 use Rattle.query_lex.specs.declared.state.Sign.{Sign}
 use Rattle.query_lex.specs.declared.state.Sign.TheVariants as sign
+use Rattle.query_lex.specs.declared.state.Quoted.{Quoted}
 use Rattle.query_lex.specs.declared.state.Quoted.TheVariants as quoted
+use Rattle.query_lex.specs.declared.state.Named.{Named}
 use Rattle.query_lex.specs.declared.state.Named.TheVariants as named
+use Rattle.query_lex.specs.declared.state.Tagged.{Tagged}
 use Rattle.query_lex.specs.declared.state.Tagged.TheVariants as tagged
+use Rattle.query_lex.specs.declared.state.Number.{Number}
 use Rattle.query_lex.specs.declared.state.Number.TheVariants as number
+use Rattle.query_lex.specs.declared.state.Prefixed.{Prefixed}
 use Rattle.query_lex.specs.declared.state.Prefixed.TheVariants as prefixed
 use Rattle.query_lex.specs.declared.state.State.{State}
 use Rattle.query_lex.specs.declared.state.State.TheVariants as state
@@ -133,47 +138,65 @@ behind_digit b left.Eight = state.Quoted (quoted.Escape b left.Seven)
 abbrev pub exponent_or : Sign → Moves → Moves
 exponent_or s others = to (One (codes "eE")) (state.Number s number.Exponent) others
 
+abbrev pub quoted_moves : Quoted → Moves
+quoted_moves (quoted.Within b) = within_moves b
+quoted_moves (quoted.Backslash b) = backslash_moves b
+quoted_moves (quoted.Escape b n) = to Hex (behind_digit b n) stop
+quoted_moves (quoted.Opened q) = to (One (code_of q ∷ [])) (state.Quoted (quoted.OpenedTwice q)) (within_moves (body.Short q))
+quoted_moves (quoted.OpenedTwice q) = to (One (code_of q ∷ [])) (state.Quoted (quoted.Within (body.Long q))) stop
+quoted_moves (quoted.Closed q) = to (One (code_of q ∷ [])) (state.Quoted (quoted.ClosedTwice q)) (within_moves (body.Long q))
+quoted_moves (quoted.ClosedTwice q) = to (One (code_of q ∷ [])) state.StringEnd (within_moves (body.Long q))
+
+abbrev pub named_moves : Named → Moves
+named_moves named.VarMark = to NameStart (state.Named named.Var) stop
+named_moves named.Var = to VarChar (state.Named named.Var) stop
+named_moves named.Underscore = to (One (codes ":")) (state.Named named.LabelMark) stop
+named_moves named.LabelMark = to NameStart (state.Named named.Label) stop
+named_moves named.Label = to PrefixChar (state.Named named.Label) (to (One (codes ".")) (state.Named named.LabelStop) stop)
+named_moves named.LabelStop = to PrefixChar (state.Named named.Label) (to (One (codes ".")) (state.Named named.LabelStop) stop)
+
+abbrev pub tagged_moves : Tagged → Moves
+tagged_moves tagged.Mark = to Letter (state.Tagged tagged.Letters) stop
+tagged_moves tagged.Letters = to Letter (state.Tagged tagged.Letters) (to (One (codes "-")) (state.Tagged tagged.Dash) stop)
+tagged_moves tagged.Dash = to LetterOrDigit (state.Tagged tagged.Subtag) stop
+tagged_moves tagged.Subtag = to LetterOrDigit (state.Tagged tagged.Subtag) (to (One (codes "-")) (state.Tagged tagged.Dash) stop)
+
+abbrev pub escape_moves : Moves
+escape_moves = to (One (codes "%")) (state.Prefixed prefixed.Percent) (to (One (codes "\\")) (state.Prefixed prefixed.Backslash) stop)
+
+abbrev pub prefixed_moves : Prefixed → Moves
+prefixed_moves prefixed.Word = to Letter (state.Prefixed prefixed.Word) (to PrefixChar (state.Prefixed prefixed.Prefix) (to (One (codes ".")) (state.Prefixed prefixed.PrefixStop) (to (One (codes ":")) (state.Prefixed prefixed.Colon) stop)))
+prefixed_moves prefixed.Prefix = to PrefixChar (state.Prefixed prefixed.Prefix) (to (One (codes ".")) (state.Prefixed prefixed.PrefixStop) (to (One (codes ":")) (state.Prefixed prefixed.Colon) stop))
+prefixed_moves prefixed.PrefixStop = to PrefixChar (state.Prefixed prefixed.Prefix) (to (One (codes ".")) (state.Prefixed prefixed.PrefixStop) stop)
+prefixed_moves prefixed.Colon = to LocalStart (state.Prefixed prefixed.Local) escape_moves
+prefixed_moves prefixed.Local = to LocalChar (state.Prefixed prefixed.Local) (to (One (codes ".")) (state.Prefixed prefixed.LocalStop) escape_moves)
+prefixed_moves prefixed.LocalStop = to LocalChar (state.Prefixed prefixed.Local) (to (One (codes ".")) (state.Prefixed prefixed.LocalStop) escape_moves)
+prefixed_moves prefixed.Percent = to Hex (state.Prefixed prefixed.PercentDigit) stop
+prefixed_moves prefixed.PercentDigit = to Hex (state.Prefixed prefixed.Local) stop
+prefixed_moves prefixed.Backslash = to (One (codes "_~.!$&'()*+,;=/?#@%-")) (state.Prefixed prefixed.Local) stop
+
+abbrev pub signed_moves : Sign → Number → Moves
+signed_moves s number.Integer = to Digit (state.Number s number.Integer) (to (One (codes ".")) (state.Number s number.IntegerStop) (exponent_or s stop))
+signed_moves s number.IntegerStop = to Digit (state.Number s number.Decimal) (exponent_or s stop)
+signed_moves s number.Decimal = to Digit (state.Number s number.Decimal) (exponent_or s stop)
+signed_moves s number.Exponent = to Digit (state.Number s number.Double) (to (One (codes "+-")) (state.Number s number.ExponentSign) stop)
+signed_moves s number.ExponentSign = to Digit (state.Number s number.Double) stop
+signed_moves s number.Double = to Digit (state.Number s number.Double) stop
+
 abbrev pub moves : State → Moves
 moves state.Start = start_moves
-moves (state.Quoted (quoted.Within b)) = within_moves b
-moves (state.Quoted (quoted.Backslash b)) = backslash_moves b
-moves (state.Quoted (quoted.Escape b n)) = to Hex (behind_digit b n) stop
 moves state.IriEnd = stop
-moves (state.Quoted (quoted.Opened q)) = to (One (code_of q ∷ [])) (state.Quoted (quoted.OpenedTwice q)) (within_moves (body.Short q))
-moves (state.Quoted (quoted.OpenedTwice q)) = to (One (code_of q ∷ [])) (state.Quoted (quoted.Within (body.Long q))) stop
-moves (state.Quoted (quoted.Closed q)) = to (One (code_of q ∷ [])) (state.Quoted (quoted.ClosedTwice q)) (within_moves (body.Long q))
-moves (state.Quoted (quoted.ClosedTwice q)) = to (One (code_of q ∷ [])) state.StringEnd (within_moves (body.Long q))
 moves state.StringEnd = stop
-moves (state.Named named.VarMark) = to NameStart (state.Named named.Var) stop
-moves (state.Named named.Var) = to VarChar (state.Named named.Var) stop
-moves (state.Named named.Underscore) = to (One (codes ":")) (state.Named named.LabelMark) stop
-moves (state.Named named.LabelMark) = to NameStart (state.Named named.Label) stop
-moves (state.Named named.Label) = to PrefixChar (state.Named named.Label) (to (One (codes ".")) (state.Named named.LabelStop) stop)
-moves (state.Named named.LabelStop) = to PrefixChar (state.Named named.Label) (to (One (codes ".")) (state.Named named.LabelStop) stop)
-moves (state.Tagged tagged.Mark) = to Letter (state.Tagged tagged.Letters) stop
-moves (state.Tagged tagged.Letters) = to Letter (state.Tagged tagged.Letters) (to (One (codes "-")) (state.Tagged tagged.Dash) stop)
-moves (state.Tagged tagged.Dash) = to LetterOrDigit (state.Tagged tagged.Subtag) stop
-moves (state.Tagged tagged.Subtag) = to LetterOrDigit (state.Tagged tagged.Subtag) (to (One (codes "-")) (state.Tagged tagged.Dash) stop)
 moves state.Sign = to Digit (state.Number sign.Present number.Integer) (to (One (codes ".")) state.SignStop stop)
 moves state.Stop = to Digit (state.Number sign.Absent number.Decimal) stop
 moves state.SignStop = to Digit (state.Number sign.Present number.Decimal) stop
-moves (state.Number s number.Integer) = to Digit (state.Number s number.Integer) (to (One (codes ".")) (state.Number s number.IntegerStop) (exponent_or s stop))
-moves (state.Number s number.IntegerStop) = to Digit (state.Number s number.Decimal) (exponent_or s stop)
-moves (state.Number s number.Decimal) = to Digit (state.Number s number.Decimal) (exponent_or s stop)
-moves (state.Number s number.Exponent) = to Digit (state.Number s number.Double) (to (One (codes "+-")) (state.Number s number.ExponentSign) stop)
-moves (state.Number s number.ExponentSign) = to Digit (state.Number s number.Double) stop
-moves (state.Number s number.Double) = to Digit (state.Number s number.Double) stop
-moves (state.Prefixed prefixed.Word) = to Letter (state.Prefixed prefixed.Word) (to PrefixChar (state.Prefixed prefixed.Prefix) (to (One (codes ".")) (state.Prefixed prefixed.PrefixStop) (to (One (codes ":")) (state.Prefixed prefixed.Colon) stop)))
-moves (state.Prefixed prefixed.Prefix) = to PrefixChar (state.Prefixed prefixed.Prefix) (to (One (codes ".")) (state.Prefixed prefixed.PrefixStop) (to (One (codes ":")) (state.Prefixed prefixed.Colon) stop))
-moves (state.Prefixed prefixed.PrefixStop) = to PrefixChar (state.Prefixed prefixed.Prefix) (to (One (codes ".")) (state.Prefixed prefixed.PrefixStop) stop)
-moves (state.Prefixed prefixed.Colon) = to LocalStart (state.Prefixed prefixed.Local) (to (One (codes "%")) (state.Prefixed prefixed.Percent) (to (One (codes "\\")) (state.Prefixed prefixed.Backslash) stop))
-moves (state.Prefixed prefixed.Local) = to LocalChar (state.Prefixed prefixed.Local) (to (One (codes ".")) (state.Prefixed prefixed.LocalStop) (to (One (codes "%")) (state.Prefixed prefixed.Percent) (to (One (codes "\\")) (state.Prefixed prefixed.Backslash) stop)))
-moves (state.Prefixed prefixed.LocalStop) = to LocalChar (state.Prefixed prefixed.Local) (to (One (codes ".")) (state.Prefixed prefixed.LocalStop) (to (One (codes "%")) (state.Prefixed prefixed.Percent) (to (One (codes "\\")) (state.Prefixed prefixed.Backslash) stop)))
-moves (state.Prefixed prefixed.Percent) = to Hex (state.Prefixed prefixed.PercentDigit) stop
-moves (state.Prefixed prefixed.PercentDigit) = to Hex (state.Prefixed prefixed.Local) stop
-moves (state.Prefixed prefixed.Backslash) = to (One (codes "_~.!$&'()*+,;=/?#@%-")) (state.Prefixed prefixed.Local) stop
 moves state.Caret = to (One (codes "^")) state.MarkEnd stop
 moves state.MarkEnd = stop
+moves (state.Quoted part) = quoted_moves part
+moves (state.Named part) = named_moves part
+moves (state.Tagged part) = tagged_moves part
+moves (state.Number s part) = signed_moves s part
+moves (state.Prefixed part) = prefixed_moves part
 
 abbrev pub step_of : State → ℕ → Option State
 step_of state c = run (moves state) c

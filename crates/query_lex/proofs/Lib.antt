@@ -1,2 +1,4 @@
+pub mod Changes
+pub mod GapMoving
 pub mod Moving
 pub mod Starts

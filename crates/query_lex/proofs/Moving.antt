@@ -7,8 +7,9 @@ use Rattle.query_tokens.specs.Front.{is_optional, all_behind, ended, forms_of}
 use Rattle.query_tokens.specs.Laws.{OneKind}
 use Rattle.query_tokens.proofs.Behind.{both, is_same, has_optional}
 use Rattle.query_tokens.proofs.Longest.{Is, all_behind_is, token_is}
-use Rattle.query_tokens.proofs.Cuts.{cuts_of, Agree, agree_left, agree_right, same_in_ranges, OneToOne, leads_on, leads_everywhere}
-use Rattle.query_lex.specs.Steps.{Class, ranges_of, is_in, Moves, stop, rest, to, except, run, moves, step_of}
+use Rattle.query_tokens.proofs.Cuts.{OneToOne, leads_on, leads_everywhere}
+use Rattle.query_lex.proofs.Changes.{move_cuts, same_run}
+use Rattle.query_lex.specs.Steps.{is_in, moves, step_of}
 use Rattle.query_lex.specs.Meaning.{to_follow, to_follow_any, kind_read}
 use Rattle.query_lex.specs.declared.state.Quote.TheVariants as quote
 use Rattle.query_lex.specs.declared.state.Body.TheVariants as body
@@ -63,27 +64,6 @@ by_number Mark = refl
 
 pub one_to_one : OneToOne number_of
 one_to_one j k h = sym (by_number j) ∙ (ap (λ n. nth n kinds) h ∙ by_number k)
-
--- the places where a step may change
-abbrev pub move_cuts : Moves → List ℕ
-move_cuts stop = []
-move_cuts (rest state) = []
-move_cuts (to class state more) = cuts_of (ranges_of class) ++ move_cuts more
-move_cuts (except class more) = cuts_of (ranges_of class) ++ move_cuts more
-
-same_class : (class : Class) (c d : ℕ) → Agree c d (cuts_of (ranges_of class)) → is_in class c ≡ is_in class d
-unfolding is_in
-same_class class c d h = same_in_ranges c d (ranges_of class) h
-
-same_run : (m : Moves) (c d : ℕ) → Agree c d (move_cuts m) → run m c ≡ run m d
-same_run stop c d h = refl
-same_run (rest state) c d h = refl
-same_run (to class state more) c d h =
-    ap (λ b. cond {A = Option State} b (Some state) (run more c)) (same_class class c d (agree_left c d (cuts_of (ranges_of class)) (move_cuts more) h))
-    ∙ ap (λ o. cond {A = Option State} (is_in class d) (Some state) o) (same_run more c d (agree_right c d (cuts_of (ranges_of class)) (move_cuts more) h))
-same_run (except class more) c d h =
-    ap (λ b. cond {A = Option State} b None (run more c)) (same_class class c d (agree_left c d (cuts_of (ranges_of class)) (move_cuts more) h))
-    ∙ ap (λ o. cond {A = Option State} (is_in class d) None o) (same_run more c d (agree_right c d (cuts_of (ranges_of class)) (move_cuts more) h))
 
 abbrev Checks : State → Type 0
 Checks state = leads_on number_of (to_follow state) (λ c. to_follow_any (step_of state c)) (move_cuts (moves state)) ≡ true

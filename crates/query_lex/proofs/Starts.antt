@@ -17,14 +17,14 @@ begins_alone = One (codes "<") ∷ One (codes "'") ∷ One (codes "\"") ∷ One 
     ∷ One (codes ".") ∷ Digit ∷ One (codes ":") ∷ One (codes "^") ∷ One (codes "{}[];,*") ∷ Letter ∷ []
 
 -- moves by the classes, one after the other, and then others
-abbrev first_by : List Class → Moves → Moves → Type 0
+abbrev first_by : List Class → Moves State → Moves State → Type 0
 first_by [] m others = m ≡ others
 first_by (class ∷ classes) stop others = ⊥
 first_by (class ∷ classes) (rest q) others = ⊥
 first_by (class ∷ classes) (except k m) others = ⊥
 first_by (class ∷ classes) (to k q m) others = (k ≡ class) × first_by classes m others
 
-passed : (classes : List Class) (m others : Moves) (c : ℕ) → first_by classes m others → is_in_any classes c ≡ false → run m c ≡ run others c
+passed : (classes : List Class) (m others : Moves State) (c : ℕ) → first_by classes m others → is_in_any classes c ≡ false → run m c ≡ run others c
 passed [] m others c f h = cc
 passed (class ∷ classes) (to k q m) others c f h =
     let both : (is_in class c ≡ false) × (is_in_any classes c ≡ false) = neither _ _ h in

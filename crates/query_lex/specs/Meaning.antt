@@ -1,6 +1,9 @@
 -- What may follow where so much of a token was read.
 use Rattle.std.specs.Prelude.{ℕ, List, [], ◌∷◌, ◌++◌, Option, Some, None, codes}
 use Rattle.query_tokens.specs.Forms.{Form}
+use Rattle.query_tokens.specs.Tokens as model
+use Rattle.query_lex.specs.declared.gap.Gap.{Gap}
+use Rattle.query_lex.specs.declared.gap.Gap.TheVariants as gap
 use Rattle.query_tokens.specs.Tokens.{Kind, Iri, PnameNs, PnameLn, Label, Var, LangTag, Integer, Decimal, Double, SignedInteger, SignedDecimal, SignedDouble, Str, Word, Mark, kinds}
 use Rattle.query_tokens.specs.Front.{all_behind, forms_of}
 use Rattle.query_lex.specs.Steps.{code_of}
@@ -20,7 +23,7 @@ use Rattle.query_lex.specs.declared.state.State.{State}
 use Rattle.query_lex.specs.declared.state.State.TheVariants as state
 
 -- what has to follow the characters
-abbrev pub behind_all : List ℕ → List (Kind × Form) → List (Kind × Form)
+abbrev pub behind_all : {K : Type 0} → List ℕ → List (K × Form) → List (K × Form)
 behind_all [] es = es
 behind_all (c ∷ cs) es = behind_all cs (all_behind c es)
 
@@ -121,3 +124,16 @@ to_follow state = behind_all (example state) (forms_of kinds)
 unfoldable pub to_follow_any : Option State → List (Kind × Form)
 to_follow_any None = []
 to_follow_any (Some state) = to_follow state
+
+-- the same of blanks and comments
+
+abbrev pub gap_example : Gap → List ℕ
+gap_example gap.Blanks = []
+gap_example gap.Comment = codes "#"
+
+unfoldable pub gap_to_follow : Gap → List (ℕ × Form)
+gap_to_follow state = behind_all {K = ℕ} (gap_example state) ((0, model.gap) ∷ [])
+
+unfoldable pub gap_to_follow_any : Option Gap → List (ℕ × Form)
+gap_to_follow_any None = []
+gap_to_follow_any (Some state) = gap_to_follow state

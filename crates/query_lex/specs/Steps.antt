@@ -3,6 +3,8 @@ use Rattle.std.specs.Prelude.{ℕ, Bool, cond, List, [], ◌∷◌, ◌++◌, Op
 use Rattle.ntriples_model.specs.Characters.{in_ranges, letters, digits, pn_chars_base}
 use Rattle.query_tokens.specs.Forms.{each}
 use Rattle.query_tokens.specs.Tokens.{pn_chars_u, pn_chars, joiners}
+use Rattle.query_lex.specs.declared.gap.Gap.{Gap}
+use Rattle.query_lex.specs.declared.gap.Gap.TheVariants as gap
 use Rattle.query_lex.specs.declared.state.Quote.{Quote}
 use Rattle.query_lex.specs.declared.state.Quote.TheVariants as quote
 use Rattle.query_lex.specs.declared.state.Body.{Body}
@@ -62,28 +64,34 @@ is_in class c = in_ranges (ranges_of class) c
 
 -- Moves
 
-pub data Moves : Type 0 where
-  stop : Moves
+pub data Moves (S : Type 0) : Type 0 where
+  stop : Moves S
   -- whatever the character is
-  rest : State → Moves
+  rest : S → Moves S
   -- a character of the class leads there, others go on
-  to : Class → State → Moves → Moves
+  to : Class → S → Moves S → Moves S
   -- a character of the class stops
-  except : Class → Moves → Moves
+  except : Class → Moves S → Moves S
 
-abbrev pub run : Moves → ℕ → Option State
+abbrev pub run : {S : Type 0} → Moves S → ℕ → Option S
 run stop c = None
 run (rest state) c = Some state
 run (to class state more) c = cond (is_in class c) (Some state) (run more c)
 run (except class more) c = cond (is_in class c) None (run more c)
 
--- Steps
+-- Blanks and comments
+
+abbrev pub gap_moves : Gap → Moves Gap
+gap_moves gap.Blanks = to (One (0x20 ∷ 0x9 ∷ 0xD ∷ 0xA ∷ [])) gap.Blanks (to (One (codes "#")) gap.Comment stop)
+gap_moves gap.Comment = to (One (0xD ∷ 0xA ∷ [])) gap.Blanks (rest gap.Comment)
+
+-- Tokens
 
 abbrev pub code_of : Quote → ℕ
 code_of quote.Single = 0x27
 code_of quote.Double = 0x22
 
-abbrev pub start_moves : Moves
+abbrev pub start_moves : Moves State
 start_moves =
     to (One (codes "<")) (state.Quoted (quoted.Within body.Iri))
     (to (One (codes "'")) (state.Quoted (quoted.Opened quote.Single))
@@ -100,7 +108,7 @@ start_moves =
     (to Letter (state.Prefixed prefixed.Word)
     (to PrefixStart (state.Prefixed prefixed.Prefix) stop)))))))))))))
 
-abbrev pub within_moves : Body → Moves
+abbrev pub within_moves : Body → Moves State
 within_moves body.Iri =
     to (One (codes ">")) state.IriEnd
     (to (One (codes "\\")) (state.Quoted (quoted.Backslash body.Iri))
@@ -114,12 +122,12 @@ within_moves (body.Long q) =
     (to (One (codes "\\")) (state.Quoted (quoted.Backslash (body.Long q)))
     (rest (state.Quoted (quoted.Within (body.Long q)))))
 
-abbrev pub number_moves : Body → Moves
+abbrev pub number_moves : Body → Moves State
 number_moves b =
     to (One (codes "u")) (state.Quoted (quoted.Escape b left.Four))
     (to (One (codes "U")) (state.Quoted (quoted.Escape b left.Eight)) stop)
 
-abbrev pub backslash_moves : Body → Moves
+abbrev pub backslash_moves : Body → Moves State
 backslash_moves body.Iri = number_moves body.Iri
 backslash_moves (body.Short q) = to (One (codes "tbnrf\"'\\")) (state.Quoted (quoted.Within (body.Short q))) (number_moves (body.Short q))
 backslash_moves (body.Long q) = to (One (codes "tbnrf\"'\\")) (state.Quoted (quoted.Within (body.Long q))) (number_moves (body.Long q))
@@ -135,10 +143,10 @@ behind_digit b left.Six = state.Quoted (quoted.Escape b left.Five)
 behind_digit b left.Seven = state.Quoted (quoted.Escape b left.Six)
 behind_digit b left.Eight = state.Quoted (quoted.Escape b left.Seven)
 
-abbrev pub exponent_or : Sign → Moves → Moves
+abbrev pub exponent_or : Sign → Moves State → Moves State
 exponent_or s others = to (One (codes "eE")) (state.Number s number.Exponent) others
 
-abbrev pub quoted_moves : Quoted → Moves
+abbrev pub quoted_moves : Quoted → Moves State
 quoted_moves (quoted.Within b) = within_moves b
 quoted_moves (quoted.Backslash b) = backslash_moves b
 quoted_moves (quoted.Escape b n) = to Hex (behind_digit b n) stop
@@ -147,7 +155,7 @@ quoted_moves (quoted.OpenedTwice q) = to (One (code_of q ∷ [])) (state.Quoted 
 quoted_moves (quoted.Closed q) = to (One (code_of q ∷ [])) (state.Quoted (quoted.ClosedTwice q)) (within_moves (body.Long q))
 quoted_moves (quoted.ClosedTwice q) = to (One (code_of q ∷ [])) state.StringEnd (within_moves (body.Long q))
 
-abbrev pub named_moves : Named → Moves
+abbrev pub named_moves : Named → Moves State
 named_moves named.VarMark = to NameStart (state.Named named.Var) stop
 named_moves named.Var = to VarChar (state.Named named.Var) stop
 named_moves named.Underscore = to (One (codes ":")) (state.Named named.LabelMark) stop
@@ -155,16 +163,16 @@ named_moves named.LabelMark = to NameStart (state.Named named.Label) stop
 named_moves named.Label = to PrefixChar (state.Named named.Label) (to (One (codes ".")) (state.Named named.LabelStop) stop)
 named_moves named.LabelStop = to PrefixChar (state.Named named.Label) (to (One (codes ".")) (state.Named named.LabelStop) stop)
 
-abbrev pub tagged_moves : Tagged → Moves
+abbrev pub tagged_moves : Tagged → Moves State
 tagged_moves tagged.Mark = to Letter (state.Tagged tagged.Letters) stop
 tagged_moves tagged.Letters = to Letter (state.Tagged tagged.Letters) (to (One (codes "-")) (state.Tagged tagged.Dash) stop)
 tagged_moves tagged.Dash = to LetterOrDigit (state.Tagged tagged.Subtag) stop
 tagged_moves tagged.Subtag = to LetterOrDigit (state.Tagged tagged.Subtag) (to (One (codes "-")) (state.Tagged tagged.Dash) stop)
 
-abbrev pub escape_moves : Moves
+abbrev pub escape_moves : Moves State
 escape_moves = to (One (codes "%")) (state.Prefixed prefixed.Percent) (to (One (codes "\\")) (state.Prefixed prefixed.Backslash) stop)
 
-abbrev pub prefixed_moves : Prefixed → Moves
+abbrev pub prefixed_moves : Prefixed → Moves State
 prefixed_moves prefixed.Word = to Letter (state.Prefixed prefixed.Word) (to PrefixChar (state.Prefixed prefixed.Prefix) (to (One (codes ".")) (state.Prefixed prefixed.PrefixStop) (to (One (codes ":")) (state.Prefixed prefixed.Colon) stop)))
 prefixed_moves prefixed.Prefix = to PrefixChar (state.Prefixed prefixed.Prefix) (to (One (codes ".")) (state.Prefixed prefixed.PrefixStop) (to (One (codes ":")) (state.Prefixed prefixed.Colon) stop))
 prefixed_moves prefixed.PrefixStop = to PrefixChar (state.Prefixed prefixed.Prefix) (to (One (codes ".")) (state.Prefixed prefixed.PrefixStop) stop)
@@ -175,7 +183,7 @@ prefixed_moves prefixed.Percent = to Hex (state.Prefixed prefixed.PercentDigit) 
 prefixed_moves prefixed.PercentDigit = to Hex (state.Prefixed prefixed.Local) stop
 prefixed_moves prefixed.Backslash = to (One (codes "_~.!$&'()*+,;=/?#@%-")) (state.Prefixed prefixed.Local) stop
 
-abbrev pub signed_moves : Sign → Number → Moves
+abbrev pub signed_moves : Sign → Number → Moves State
 signed_moves s number.Integer = to Digit (state.Number s number.Integer) (to (One (codes ".")) (state.Number s number.IntegerStop) (exponent_or s stop))
 signed_moves s number.IntegerStop = to Digit (state.Number s number.Decimal) (exponent_or s stop)
 signed_moves s number.Decimal = to Digit (state.Number s number.Decimal) (exponent_or s stop)
@@ -183,7 +191,7 @@ signed_moves s number.Exponent = to Digit (state.Number s number.Double) (to (On
 signed_moves s number.ExponentSign = to Digit (state.Number s number.Double) stop
 signed_moves s number.Double = to Digit (state.Number s number.Double) stop
 
-abbrev pub moves : State → Moves
+abbrev pub moves : State → Moves State
 moves state.Start = start_moves
 moves state.IriEnd = stop
 moves state.StringEnd = stop

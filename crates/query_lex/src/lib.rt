@@ -2,6 +2,7 @@
 #![tactic(auto)]
 
 mod classes;
+mod gap;
 mod state;
 mod step;
 mod token;

@@ -1,4 +1,7 @@
 pub mod Changes
 pub mod GapMoving
+pub mod GapReading
 pub mod Moving
+pub mod Scanning
 pub mod Starts
+pub mod TokenReading

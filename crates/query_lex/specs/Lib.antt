@@ -1,3 +1,5 @@
 pub mod Kinds
 pub mod Meaning
+pub mod Reading
+pub mod Scan
 pub mod Steps

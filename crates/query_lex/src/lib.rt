@@ -3,8 +3,10 @@
 
 mod classes;
 mod gap;
+mod lexer;
 mod state;
 mod step;
 mod token;
 
+pub use lexer::Lexer;
 pub use token::{LexFault, Token, TokenKind};

@@ -1,0 +1,108 @@
+//! A Lexer reads a text token by token. What it gives is said by `Gives` of `specs/Reading.antt`, in the words of
+//! `query_tokens`.
+ghost use Rattle.std.specs.Prelude.{◌≡◌, length};
+ghost use Rattle.std.specs.Str.{chars};
+ghost use Rattle.query_tokens.specs.Front.{token_at, gap_at};
+ghost use Rattle.query_lex.specs.Meaning.{kind_read};
+ghost use Rattle.query_lex.specs.Reading.{Gives, IsBehind};
+ghost use Rattle.query_lex.specs.Scan.{IsFound, IsBetter};
+
+use std::marker::Model;
+
+use crate::gap::Gap;
+use crate::state::State;
+use crate::token::{LexFault, Token, TokenKind};
+
+/// Reads the tokens of a text in their order.
+#[derive(Drop)]
+pub struct Lexer<'a> {
+    text: &'a str,
+    rest: &'a str,
+}
+
+impl<'a> Model for Lexer<'a> {
+    ghost use Rattle.std.specs.Prelude.{◌≡◌, ◌≤◌, ◌-◌, length, drop};
+    ghost use Rattle.query_lex.specs.Reading.{Reading};
+
+    ghost Value = { Reading };
+
+    ghost view = { λ l. record { text = l.text.now; place = length l.text.now - length l.rest.now } };
+
+    ghost invariant = { λ l. (length l.rest.now ≤ length l.text.now) × (l.rest.now ≡ drop (length l.text.now - length l.rest.now) l.text.now) };
+}
+
+/// What stands behind the blanks and comments that begin the text.
+fn behind_gap(text: &str) -> &str
+    ensures { IsBehind text.now (gap_at (chars text.now)) result.now }
+{
+    let mut gap = Gap::Blanks;
+    let mut rest = text;
+    let mut ahead = text.chars();
+    while let Some(c) = ahead.next() {
+        let Some(next) = gap.step(c) else {
+            return rest;
+        };
+        gap = next;
+        rest = ahead.as_str();
+    }
+    rest
+}
+
+/// The longest token that begins the text: its kind, and what stands behind it.
+fn longest_token(text: &str) -> Option<(TokenKind, &str)>
+    ensures { IsFound text.now result (token_at (chars text.now)) }
+{
+    let mut state = State::Start;
+    let mut found = None;
+    let mut ahead = text.chars();
+    while let Some(c) = ahead.next() {
+        let Some(next) = state.step(c) else {
+            return found;
+        };
+        state = next;
+        found = or_here(state, ahead.as_str(), found);
+    }
+    found
+}
+
+/// What was read, where it is a token, or else what was found before.
+fn or_here<'a>(
+    state: State,
+    rest: &'a str,
+    found: Option<(TokenKind, &'a str)>,
+) -> Option<(TokenKind, &'a str)>
+    ensures { IsBetter (kind_read state) rest.now found.entry result }
+{
+    match state.kind() {
+        Some(kind) => Some((kind, rest)),
+        None => found,
+    }
+}
+
+impl<'a> Lexer<'a> {
+    pub fn new(text: &'a str) -> Self
+        ensures { result ≡ record { text = text.now; place = 0 } }
+    {
+        Lexer { text, rest: text }
+    }
+
+    /// The next token, or none where only blanks and comments are left.
+    pub fn next(&mut self) -> Result<Option<Token>, LexFault>
+        ensures { Gives self.old result self.new }
+    {
+        let rest = behind_gap(self.rest);
+        if rest.is_empty() {
+            return Ok(None);
+        }
+        let Some((kind, behind)) = longest_token(rest) else {
+            return Err(LexFault);
+        };
+        let token = Token {
+            kind,
+            from: self.text.len() - rest.len(),
+            to: self.text.len() - behind.len(),
+        };
+        self.rest = behind;
+        Ok(Some(token))
+    }
+}

@@ -1,5 +1,5 @@
 -- The places where a step may change.
-use Rattle.std.proofs.Common.{◌≡◌, ◌∙◌, ℕ, Bool, true, false, cond, List, [], ◌∷◌, ◌++◌, refl, ap, Option, Some, None}
+use Rattle.std.proofs.Common.{◌≡◌, ◌∙◌, ℕ, cond, List, [], ◌++◌, refl, ap, Option, Some, None}
 use Rattle.query_tokens.proofs.Cuts.{cuts_of, Agree, agree_left, agree_right, same_in_ranges}
 use Rattle.query_lex.specs.Steps.{Class, ranges_of, is_in, Moves, stop, rest, to, except, run}
 

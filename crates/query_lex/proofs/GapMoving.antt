@@ -1,6 +1,5 @@
 -- Each move between blanks and comments is what the form of a gap asks for.
-use Rattle.std.proofs.Common.{◌≡◌, ℕ, true, List, [], ◌∷◌, refl, ap, Option, Some, None}
-use Rattle.query_tokens.specs.Forms.{Form}
+use Rattle.std.proofs.Common.{◌≡◌, ℕ, true, refl, ap, Some}
 use Rattle.query_tokens.specs.Front.{all_behind, ended}
 use Rattle.query_tokens.proofs.Cuts.{leads_on, leads_everywhere}
 use Rattle.query_lex.specs.Steps.{is_in, run, gap_moves}

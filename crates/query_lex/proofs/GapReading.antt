@@ -1,5 +1,5 @@
 -- What the loop over blanks and comments keeps.
-use Rattle.std.proofs.Common.{◌≡◌, ◌∙◌, ℕ, ◌+◌, List, [], ◌∷◌, ◌++◌, length, refl, sym, ap, subst, Option, Some, None, chars, IsUtf8}
+use Rattle.std.proofs.Common.{◌≡◌, ◌∙◌, ℕ, List, [], ◌∷◌, ◌++◌, length, refl, ap, subst, Option, Some, None, chars, IsUtf8}
 use Rattle.std.specs.Char.{encode_utf8}
 use Rattle.query_tokens.specs.Forms.{Form}
 use Rattle.query_tokens.specs.Tokens as model
@@ -30,7 +30,7 @@ gap_goes_on text state next rest rest2 c g r e =
     let follow : gap_to_follow next ≡ all_behind c (gap_to_follow state) = opened next ∙ (ap gap_to_follow_any e ∙ gap_step_meant state c) in
     let looks = looks_on all (gap_to_follow state) (gap_to_follow next) text rest rest2 g.front (Some (0, length g.front)) c g.looks r follow in
     let best : prefer (at_place (length front) (ended (gap_to_follow next))) (Some (0, length g.front)) ≡ Some (0, length front) =
-      ap (λ (o : Option ℕ). prefer (at_place (length front) o) (Some (0, length g.front))) (gap_ends next) in
+    ap (λ (o : Option ℕ). prefer (at_place (length front) o) (Some (0, length g.front))) (gap_ends next) in
     record { front = front; looks = subst (λ (o : Option (ℕ × ℕ)). LooksAhead all (gap_to_follow next) text rest2 front o) best looks }
   where
     opened : (state : Gap) → gap_to_follow state ≡ gap_to_follow_any (Some state)
@@ -45,7 +45,7 @@ pub gap_stops : (text : List ℕ) (state : Gap) (rest rest2 : List ℕ) (c : ℕ
 gap_stops text state rest rest2 c g r e =
     let follow : [] ≡ all_behind c (gap_to_follow state) = closed ∙ (ap gap_to_follow_any e ∙ gap_step_meant state c) in
     gap_found text rest g.front (looks_behind all (gap_to_follow state) text rest g.front (Some (0, length g.front)) g.looks)
-      (looks_stop all (gap_to_follow state) text rest rest2 g.front (Some (0, length g.front)) c g.looks r follow)
+    (looks_stop all (gap_to_follow state) text rest rest2 g.front (Some (0, length g.front)) c g.looks r follow)
   where
     closed : [] ≡ gap_to_follow_any None
     closed = unfold gap_to_follow_any in refl
@@ -53,4 +53,4 @@ gap_stops text state rest rest2 c g r e =
 pub gap_at_end : (text : List ℕ) (state : Gap) (rest : List ℕ) → IsGapSoFar text state rest → length rest ≡ 0 → IsBehind text (gap_at (chars text)) rest
 gap_at_end text state rest g h =
     gap_found text rest g.front (looks_behind all (gap_to_follow state) text rest g.front (Some (0, length g.front)) g.looks)
-      (looks_end all (gap_to_follow state) text rest g.front (Some (0, length g.front)) g.looks h)
+    (looks_end all (gap_to_follow state) text rest g.front (Some (0, length g.front)) g.looks h)

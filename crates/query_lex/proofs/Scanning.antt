@@ -34,13 +34,15 @@ longest_some {K} es [] kind h = ((kind, 0), ap at_once h)
 longest_some {K} es (c ∷ cs) kind h =
     elim (longest (all_behind c es) cs) as (λ o. (found : K × ℕ) × (one_longer o (at_once (ended es)) ≡ Some found)) [
       | None ↦ ((kind, 0), ap at_once h)
-      | Some x ↦ ((x.0, x.1 + 1), refl) ]
+      | Some x ↦ ((x.0, x.1 + 1), refl)
+    ]
 
 longest_none : {K : Type 0} (es : List (K × Form)) (cs : List ℕ) → longest es cs ≡ None → ended es ≡ None
 longest_none {K} es cs h =
     elim (ended es) as (λ o. ended es ≡ o → ended es ≡ None) [
       | None ↦ λ e. e
-      | Some k ↦ λ e. let more = longest_some es cs k e in absurd (let second : longest es cs ≡ Some more.0 = more.1 in cc) ] refl
+      | Some k ↦ λ e. let more = longest_some es cs k e in absurd (let second : longest es cs ≡ Some more.0 = more.1 in cc)
+    ] refl
 
 none_at : {K : Type 0} (cs : List ℕ) → longest {K = K} [] cs ≡ None
 none_at [] = refl
@@ -68,7 +70,8 @@ looks_start all text u = record {
   chars_are = refl;
   utf8 = u;
   goes_on = start_goes_on (longest all (chars text)) (ended all) (λ h. longest_none all (chars text) h);
-  here = elim (ended all) as (λ o. prefer (at_place 0 o) (at_place 0 o) ≡ at_place 0 o) [ None ↦ refl | Some k ↦ refl ] }
+  here = elim (ended all) as (λ o. prefer (at_place 0 o) (at_place 0 o) ≡ at_place 0 o) [ None ↦ refl | Some k ↦ refl ];
+}
 
 step_goes_on : {K : Type 0} (n m : ℕ) (o best answer : Option (K × ℕ)) (e e2 : Option K) → m ≡ suc n → (o ≡ None → e2 ≡ None)
     → prefer (at_place n e) best ≡ best → prefer (later n (one_longer o (at_once e))) best ≡ answer
@@ -86,7 +89,7 @@ looks_on {K} all es es2 text rest rest2 front best c l r e =
     let size : length (front ++ c ∷ []) ≡ suc (length front) = simp length-append (omega arith) in
     let old : prefer (later (length front) (longest es (c ∷ chars rest2))) best ≡ longest all (chars text) = subst (λ (x : List ℕ). prefer (later (length front) (longest es x)) best ≡ longest all (chars text)) more l.goes_on in
     let next : prefer (later (length front) (one_longer (longest es2 (chars rest2)) (at_once (ended es)))) best ≡ longest all (chars text) =
-      subst (λ (x : List (K × Form)). prefer (later (length front) (one_longer (longest x (chars rest2)) (at_once (ended es)))) best ≡ longest all (chars text)) (sym e) old in
+    subst (λ (x : List (K × Form)). prefer (later (length front) (one_longer (longest x (chars rest2)) (at_once (ended es)))) best ≡ longest all (chars text)) (sym e) old in
     record {
       text_is = l.text_is ∙ (ap (λ (x : List ℕ). encode_utf8_all front ++ x) r
           ∙ (sym (append_assoc (encode_utf8_all front) (encode_utf8 c) rest2)
@@ -94,7 +97,8 @@ looks_on {K} all es es2 text rest rest2 front best c l r e =
       chars_are = l.chars_are ∙ (ap (λ (x : List ℕ). front ++ x) more ∙ sym (append_assoc front (c ∷ []) (chars rest2)));
       utf8 = IsUtf8-past_char rest rest2 c l.utf8 r;
       goes_on = step_goes_on (length front) (length (front ++ c ∷ [])) (longest es2 (chars rest2)) best (longest all (chars text)) (ended es) (ended es2) size (λ h. longest_none es2 (chars rest2) h) l.here next;
-      here = prefer_twice (at_place (length (front ++ c ∷ [])) (ended es2)) best }
+      here = prefer_twice (at_place (length (front ++ c ∷ [])) (ended es2)) best;
+    }
 
 -- where no form goes on, the best so far is the longest
 pub looks_stop : {K : Type 0} (all es : List (K × Form)) (text rest rest2 front : List ℕ) (best : Option (K × ℕ)) (c : ℕ)
@@ -103,9 +107,9 @@ looks_stop {K} all es text rest rest2 front best c l r e =
     let more : chars rest ≡ c ∷ chars rest2 = chars_past_char rest rest2 c l.utf8 r in
     let old : prefer (later (length front) (longest es (c ∷ chars rest2))) best ≡ longest all (chars text) = subst (λ (x : List ℕ). prefer (later (length front) (longest es x)) best ≡ longest all (chars text)) more l.goes_on in
     let next : prefer (later (length front) (one_longer (longest {K = K} [] (chars rest2)) (at_once (ended es)))) best ≡ longest all (chars text) =
-      subst (λ (x : List (K × Form)). prefer (later (length front) (one_longer (longest x (chars rest2)) (at_once (ended es)))) best ≡ longest all (chars text)) (sym e) old in
+    subst (λ (x : List (K × Form)). prefer (later (length front) (one_longer (longest x (chars rest2)) (at_once (ended es)))) best ≡ longest all (chars text)) (sym e) old in
     let last : prefer (later (length front) (at_once (ended es))) best ≡ longest all (chars text) =
-      subst (λ (x : Option (K × ℕ)). prefer (later (length front) (one_longer x (at_once (ended es)))) best ≡ longest all (chars text)) (none_at (chars rest2)) next in
+    subst (λ (x : Option (K × ℕ)). prefer (later (length front) (one_longer x (at_once (ended es)))) best ≡ longest all (chars text)) (none_at (chars rest2)) next in
     sym l.here ∙ (ap (λ x. prefer x best) (sym (at_once_later (length front) (ended es))) ∙ last)
 
 empty : (xs : List ℕ) → length xs ≡ 0 → xs ≡ []
@@ -117,7 +121,7 @@ pub looks_end : {K : Type 0} (all es : List (K × Form)) (text rest front : List
 looks_end {K} all es text rest front best l h =
     let none : chars rest ≡ [] = ap chars (empty rest h) ∙ chars-nil in
     let last : prefer (later (length front) (at_once (ended es))) best ≡ longest all (chars text) =
-      subst (λ (x : List ℕ). prefer (later (length front) (longest es x)) best ≡ longest all (chars text)) none l.goes_on in
+    subst (λ (x : List ℕ). prefer (later (length front) (longest es x)) best ≡ longest all (chars text)) none l.goes_on in
     sym l.here ∙ (ap (λ x. prefer x best) (sym (at_once_later (length front) (ended es))) ∙ last)
 
 pub looks_behind : {K : Type 0} (all es : List (K × Form)) (text rest front : List ℕ) (best : Option (K × ℕ))

@@ -1,5 +1,5 @@
 -- A character that begins no token by itself may begin a prefix.
-use Rattle.std.proofs.Common.{◌≡◌, ◌∙◌, ℕ, Bool, true, false, cond, ◌||◌, List, [], ◌∷◌, refl, arith, Option, Some, None}
+use Rattle.std.proofs.Common.{◌≡◌, ℕ, Bool, true, false, ◌||◌, List, [], ◌∷◌, refl, arith}
 use Rattle.std.specs.Prelude.{codes}
 use Rattle.std.proofs.lemmas.Bool.Decides.{nat_tests}
 use Rattle.query_lex.specs.Steps.{Class, One, Letter, Digit, PrefixStart, is_in, Moves, stop, to, rest, except, run, start_moves}

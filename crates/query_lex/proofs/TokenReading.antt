@@ -2,10 +2,8 @@
 use Rattle.std.proofs.Common.{◌≡◌, ◌∙◌, ℕ, List, [], ◌∷◌, ◌++◌, length, refl, sym, ap, subst, Option, Some, None, chars, IsUtf8}
 use Rattle.std.specs.Char.{encode_utf8}
 use denote.Ref.{Bor}
-use Rattle.query_tokens.specs.Forms.{Form}
 use Rattle.query_tokens.specs.Tokens.{Kind, kinds}
 use Rattle.query_tokens.specs.Front.{all_behind, ended, longest, forms_of, token_at}
-use Rattle.query_lex.specs.Kinds.{kind_of}
 use Rattle.query_lex.specs.Reading.{IsBehind}
 use Rattle.query_lex.specs.Scan.{IsFound, IsBetter}
 use Rattle.query_lex.specs.Steps.{step_of}
@@ -44,14 +42,15 @@ token_goes_on text state next found better_found rest rest2 c t r e b =
     let follow : to_follow next ≡ all_behind c (to_follow state) = opened next ∙ (ap to_follow_any e ∙ step_meant state c) in
     let looks = looks_on (forms_of kinds) (to_follow state) (to_follow next) text rest rest2 t.front t.best c t.looks r follow in
     let kind : prefer (at_place (length front) (ended (to_follow next))) t.best ≡ prefer (at_place (length front) (kind_read next)) t.best =
-      ap (λ (o : Option Kind). prefer (at_place (length front) o) t.best) (kind_meant next) in
+    ap (λ (o : Option Kind). prefer (at_place (length front) o) t.best) (kind_meant next) in
     let looks2 = subst (λ (o : Option (Kind × ℕ)). LooksAhead (forms_of kinds) (to_follow next) text rest2 front o) kind looks in
     record {
       front = front;
       best = prefer (at_place (length front) (kind_read next)) t.best;
       looks = looks2;
       found_is = better text rest2 (length front) (kind_read next) t.best found better_found
-          (looks_behind (forms_of kinds) (to_follow next) text rest2 front (prefer (at_place (length front) (kind_read next)) t.best) looks2) t.found_is b }
+          (looks_behind (forms_of kinds) (to_follow next) text rest2 front (prefer (at_place (length front) (kind_read next)) t.best) looks2) t.found_is b;
+    }
   where
     opened : (state : State) → to_follow state ≡ to_follow_any (Some state)
     opened state = unfold to_follow_any in refl

@@ -1,5 +1,5 @@
 -- What a Lexer reads: a text, up to a place.
-use Rattle.std.specs.Prelude.{◌≡◌, ℕ, ◌+◌, ◌<◌, ◌≤◌, List, [], ◌∷◌, ◌++◌, length, take, drop, Option, Some, None, Result, Ok, Err, encode_utf8_all}
+use Rattle.std.specs.Prelude.{◌≡◌, ℕ, ◌+◌, ◌-◌, ◌<◌, ◌≤◌, List, [], ◌++◌, length, take, drop, Option, Some, None, Result, Ok, Err, encode_utf8_all}
 use Rattle.std.specs.Str.{chars}
 use Rattle.query_tokens.specs.Front.{token_at, gap_at}
 use Rattle.query_lex.specs.Kinds.{kind_of}
@@ -49,3 +49,8 @@ Gives old (Err fault) new = IsAtFault old × (new ≡ old)
 pub record IsBehind (text : List ℕ) (n : ℕ) (rest : List ℕ) : Type 0 where
   pub bytes : text ≡ encode_utf8_all (take n (chars text)) ++ rest
   pub characters : chars rest ≡ drop n (chars text)
+
+-- the rest ends the text
+pub record IsRest (text rest : List ℕ) : Type 0 where
+  pub within : length rest ≤ length text
+  pub is : rest ≡ drop (length text - length rest) text

@@ -1,6 +1,5 @@
 -- The longest token so far, while one is read.
 use Rattle.std.specs.Prelude.{◌≡◌, ℕ, List, Option, Some, None}
-use Rattle.std.specs.Str.{chars}
 use Rattle.query_tokens.specs.Tokens.{Kind}
 use denote.Ref.{Bor}
 use Rattle.query_lex.specs.Kinds.{kind_of}

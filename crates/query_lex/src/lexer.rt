@@ -7,11 +7,10 @@ ghost use Rattle.query_lex.specs.Meaning.{kind_read};
 ghost use Rattle.query_lex.specs.Reading.{Gives, IsBehind};
 ghost use Rattle.query_lex.specs.Scan.{IsFound, IsBetter};
 
-use std::marker::Model;
-
 use crate::gap::Gap;
 use crate::state::State;
 use crate::token::{LexFault, Token, TokenKind};
+use std::marker::Model;
 
 /// Reads the tokens of a text in their order.
 #[derive(Drop)]
@@ -21,14 +20,14 @@ pub struct Lexer<'a> {
 }
 
 impl<'a> Model for Lexer<'a> {
-    ghost use Rattle.std.specs.Prelude.{◌≡◌, ◌≤◌, ◌-◌, length, drop};
-    ghost use Rattle.query_lex.specs.Reading.{Reading};
+    ghost use Rattle.std.specs.Prelude.{◌-◌, length};
+    ghost use Rattle.query_lex.specs.Reading.{Reading, IsRest};
 
     ghost Value = { Reading };
 
     ghost view = { λ l. record { text = l.text.now; place = length l.text.now - length l.rest.now } };
 
-    ghost invariant = { λ l. (length l.rest.now ≤ length l.text.now) × (l.rest.now ≡ drop (length l.text.now - length l.rest.now) l.text.now) };
+    ghost invariant = { λ l. IsRest l.text.now l.rest.now };
 }
 
 /// What stands behind the blanks and comments that begin the text.

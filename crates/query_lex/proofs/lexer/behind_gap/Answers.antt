@@ -1,4 +1,4 @@
-use Rattle.std.proofs.Common.{◌≡◌, sym, subst}
+use Rattle.std.proofs.Common.{sym, subst}
 use Rattle.query_tokens.specs.Front.{gap_at}
 use Rattle.std.specs.Str.{chars}
 use Rattle.query_lex.specs.Reading.{IsBehind}
@@ -13,7 +13,7 @@ loop-c-init c =
 pub returns-in_default-step : goal.returns-in_default-step
 returns-in_default-step c =
     subst (IsBehind c.args.text.now (gap_at (chars c.args.text.now))) c.loop-c.invariant.2
-      (gap_stops c.args.text.now c.loop-c.gap _ _ c.in-Some.c c.loop-c.invariant.1 c.in-Some.ensures.steps.0 c.in_default-step.ensures)
+    (gap_stops c.args.text.now c.loop-c.gap _ _ c.in-Some.c c.loop-c.invariant.1 c.in-Some.ensures.steps.0 c.in_default-step.ensures)
 
 pub loop-c-preserved : goal.loop-c-preserved
 loop-c-preserved c =
@@ -22,4 +22,4 @@ loop-c-preserved c =
 pub returns : goal.returns
 returns c =
     subst (IsBehind c.args.text.now (gap_at (chars c.args.text.now))) c.loop-c.invariant.2
-      (gap_at_end c.args.text.now c.loop-c.gap _ c.loop-c.invariant.1 c.in_default.ensures.steps.0.0)
+    (gap_at_end c.args.text.now c.loop-c.gap _ c.loop-c.invariant.1 c.in_default.ensures.steps.0.0)

@@ -1,0 +1,20 @@
+use Rattle.std.proofs.Common.{◌≡◌, ◌<◌, length, refl, arith}
+use Rattle.std.proofs.lemmas.Bool.Decides.{nat_tests}
+use Rattle.query_lex.proofs.Placing.{at_end, at_fault, next_place, is_next}
+use Rattle.query_lex.proofs.lexer.Lexer.next.Goals as goal
+
+pub returns-then-is_empty : goal.returns-then-is_empty
+returns-then-is_empty c =
+    let none : length c.behind_gap-rest.result.now ≡ 0 = grind (arith, nat_tests) in
+    (at_end _ c.self.inside.text.now c.self.inside.rest.now _ c.self.view_is c.self.invariant c.behind_gap-rest.ensures none, refl)
+
+pub returns-in_default : goal.returns-in_default
+returns-in_default c =
+    let some : 0 < length c.behind_gap-rest.result.now = grind (arith, nat_tests) in
+    (at_fault _ c.self.inside.text.now c.self.inside.rest.now _ c.self.view_is c.self.invariant c.behind_gap-rest.ensures c.behind_gap-rest.utf8 some c.in_default.ensures, refl)
+
+pub invariant_of-self : goal.invariant_of-self
+invariant_of-self c = next_place c.self.inside.text.now c.self.inside.rest.now _ _ c.in-Some.ensures.0 c.self.invariant c.behind_gap-rest.ensures c.in-Some.ensures.2
+
+pub returns : goal.returns
+returns c = is_next _ c.self.inside.text.now c.self.inside.rest.now _ _ c.in-Some.kind c.in-Some.ensures.0 c.self.view_is c.self.invariant c.behind_gap-rest.ensures c.in-Some.ensures.1 c.in-Some.ensures.2

@@ -1,4 +1,5 @@
 pub mod Changes
+pub mod Every
 pub mod GapMoving
 pub mod GapReading
 pub mod Moving

@@ -9,7 +9,7 @@ move_cuts (rest state) = []
 move_cuts (to class state more) = cuts_of (ranges_of class) ++ move_cuts more
 move_cuts (except class more) = cuts_of (ranges_of class) ++ move_cuts more
 
-same_class : (class : Class) (c d : ℕ) → Agree c d (cuts_of (ranges_of class)) → is_in class c ≡ is_in class d
+pub same_class : (class : Class) (c d : ℕ) → Agree c d (cuts_of (ranges_of class)) → is_in class c ≡ is_in class d
 unfolding is_in
 same_class class c d h = same_in_ranges c d (ranges_of class) h
 

@@ -4,6 +4,7 @@ pub mod GapMoving
 pub mod GapReading
 pub mod Moving
 pub mod Placing
+pub mod Runs
 pub mod Scanning
 pub mod Starts
 pub mod TokenReading

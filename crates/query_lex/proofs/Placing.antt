@@ -69,3 +69,8 @@ is_next old text rest behind last kind n v r b t l =
       within = within;
       read = refl;
     })
+
+pub whole : (text : List ℕ) → IsRest text text
+whole text =
+    let none : length text - length text ≡ 0 = omega arith in
+    record { within = omega arith; is = ap (λ (n : ℕ). drop n text) (sym none) }

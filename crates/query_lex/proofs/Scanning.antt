@@ -44,7 +44,7 @@ longest_none {K} es cs h =
       | Some k ↦ λ e. let more = longest_some es cs k e in absurd (let second : longest es cs ≡ Some more.0 = more.1 in cc)
     ] refl
 
-none_at : {K : Type 0} (cs : List ℕ) → longest {K = K} [] cs ≡ None
+pub none_at : {K : Type 0} (cs : List ℕ) → longest {K = K} [] cs ≡ None
 none_at [] = refl
 none_at {K} (c ∷ cs) = ap (λ (o : Option (K × ℕ)). one_longer o None) (none_at {K = K} cs)
 
@@ -116,10 +116,13 @@ empty : (xs : List ℕ) → length xs ≡ 0 → xs ≡ []
 empty [] h = refl
 empty (x ∷ xs) h = absurd (omega arith)
 
+pub no_chars : (rest : List ℕ) → length rest ≡ 0 → chars rest ≡ []
+no_chars rest h = ap chars (empty rest h) ∙ chars-nil
+
 pub looks_end : {K : Type 0} (all es : List (K × Form)) (text rest front : List ℕ) (best : Option (K × ℕ))
     → LooksAhead all es text rest front best → length rest ≡ 0 → best ≡ longest all (chars text)
 looks_end {K} all es text rest front best l h =
-    let none : chars rest ≡ [] = ap chars (empty rest h) ∙ chars-nil in
+    let none : chars rest ≡ [] = no_chars rest h in
     let last : prefer (later (length front) (at_once (ended es))) best ≡ longest all (chars text) =
     subst (λ (x : List ℕ). prefer (later (length front) (longest es x)) best ≡ longest all (chars text)) none l.goes_on in
     sym l.here ∙ (ap (λ x. prefer x best) (sym (at_once_later (length front) (ended es))) ∙ last)

@@ -1,10 +1,10 @@
 //! Texts with the kinds and places of their tokens.
 use crate::{LexFault, Lexer, Token, TokenKind};
-use std::process::Abort;
 use TokenKind::{
     Decimal, Double, Integer, Iri, Label, LangTag, Mark, PnameLn, PnameNs, SignedDecimal,
     SignedDouble, SignedInteger, Str, Var, Word,
 };
+use std::process::Abort;
 
 /// The tokens stand in the text at these places, and then it ends, or nothing that begins a token follows.
 fn reads(rt: &impl Abort, text: &str, tokens: &[(TokenKind, usize, usize)], whole: bool) {
@@ -24,5 +24,10 @@ fn reads(rt: &impl Abort, text: &str, tokens: &[(TokenKind, usize, usize)], whol
 
 #[test]
 fn names(rt: HostRuntime) {
-    reads(&rt, "?s?p$o", &[(Var, 0, 2), (Var, 2, 4), (Var, 4, 6)], true);
+    reads(
+        &rt,
+        "?s?p$o",
+        &[(Var, 0, 2), (Var, 2, 4), (Var, 4, 6)],
+        true,
+    );
 }

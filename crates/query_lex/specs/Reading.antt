@@ -1,6 +1,6 @@
 -- What a Lexer reads: a text, up to a place.
-use Rattle.std.specs.Prelude.{◌≡◌, ℕ, ◌+◌, ◌-◌, ◌<◌, ◌≤◌, List, [], ◌++◌, length, take, drop, Option, Some, None, Result, Ok, Err, encode_utf8_all}
-use Rattle.std.specs.Str.{chars}
+use Rattle.std.specs.Prelude.{◌≡◌, ℕ, ◌+◌, ◌-◌, ◌<◌, ◌≤◌, List, [], ◌++◌, length, take, drop, slice_range, Option, Some, None, Result, Ok, Err, encode_utf8_all}
+use Rattle.std.specs.Str.{chars, IsCharBoundary}
 use Rattle.query_tokens.specs.Front.{token_at, gap_at}
 use Rattle.query_lex.specs.Kinds.{kind_of}
 use Rattle.query_lex.specs.declared.token.Token.{Token}
@@ -22,13 +22,18 @@ behind_gap r = drop (gap_at (ahead r)) (ahead r)
 abbrev pub size : ℕ → List ℕ → ℕ
 size n cs = length (encode_utf8_all (take n cs))
 
--- the token is the longest that begins what stands behind blanks and comments, and it was read
+-- the token is the longest that begins what stands behind blanks and comments, and the text was read up to its end
 pub record IsNext (old : Reading) (token : Token) (new : Reading) : Type 0 where
-  pub characters : ℕ
-  pub longest : token_at (behind_gap old) ≡ Some (kind_of token.kind, characters)
+  -- of how many characters it is
+  pub count : ℕ
+  pub longest : token_at (behind_gap old) ≡ Some (kind_of token.kind, count)
+  -- its place
   pub from : token.from ≡ old.place + size (gap_at (ahead old)) (ahead old)
-  pub to : token.to ≡ token.from + size characters (behind_gap old)
-  pub within : token.to ≤ length old.text
+  pub to : token.to ≡ token.from + size count (behind_gap old)
+  pub begins : IsCharBoundary old.text token.from
+  pub ends : IsCharBoundary old.text token.to
+  -- its bytes in the text
+  pub bytes : slice_range old.text token.from token.to ≡ encode_utf8_all (take count (behind_gap old))
   pub read : new ≡ record { text = old.text; place = token.to }
 
 -- only blanks and comments are left

@@ -113,6 +113,7 @@ fn or_here<'a>(
 }
 
 impl<'a> Lexer<'a> {
+    /// A Lexer of the text, of which nothing was read.
     pub fn new(text: &'a str) -> Self
         ensures { result ≡ record { text = text.now; place = 0 } }
     {

@@ -159,7 +159,8 @@ joined_gives (a ▸ b) g text (first, rest, e, ha, h) =
 joined_gives (a ∣ b) g text h =
     elim (either_gives (joined a g) (joined b g) text h) [
       | inl x ↦ let parts = joined_gives a g text x in (parts.0, parts.1, parts.2, inl parts.3, parts.4)
-      | inr y ↦ let parts = joined_gives b g text y in (parts.0, parts.1, parts.2, inr parts.3, parts.4) ]
+      | inr y ↦ let parts = joined_gives b g text y in (parts.0, parts.1, parts.2, inr parts.3, parts.4)
+    ]
 joined_gives (many a) g text h = h
 
 -- The empty text

@@ -21,7 +21,7 @@ invariant_of-self c = (
 )
 
 pub returns : goal.returns
-returns c = is_next _ c.self.inside.text.now c.self.inside.rest.now _ _ c.in-Some.kind c.in-Some.ensures.found.0 c.self.view_is c.self.invariant.0 c.behind_gap-rest.ensures c.in-Some.ensures.found.1 c.in-Some.ensures.found.2
+returns c = is_next _ c.self.inside.text.now c.self.inside.rest.now _ _ c.in-Some.kind c.in-Some.ensures.found.0 c.self.view_is c.self.invariant.0 c.behind_gap-rest.ensures c.behind_gap-rest.utf8 c.in-Some.ensures.found.1 c.in-Some.ensures.found.2
 
 pub longest_token-requires : goal.longest_token-requires
 longest_token-requires c = barren_behind _ _ _ c.self.inside.barren c.self.invariant.1 c.behind_gap-rest.ensures

@@ -1,0 +1,10 @@
+pub mod Changes
+pub mod Every
+pub mod GapMoving
+pub mod GapReading
+pub mod Moving
+pub mod Placing
+pub mod Runs
+pub mod Scanning
+pub mod Starts
+pub mod TokenReading

@@ -1,0 +1,4 @@
+pub mod Forms
+pub mod Front
+pub mod Laws
+pub mod Tokens

@@ -1,0 +1,17 @@
+pub mod Ranges
+pub mod LevelLemmas
+pub mod Images
+pub mod Places
+pub mod TrackLemmas
+pub mod StartLemmas
+pub mod ComingLemmas
+pub mod WeightLemmas
+pub mod SearchLemmas
+pub mod MemberLemmas
+pub mod GoLemmas
+pub mod FoundLemmas
+pub mod BeginLemmas
+pub mod RowLemmas
+pub mod ListingLemmas
+pub mod MakeLemmas
+pub mod TrialLemmas

@@ -1,0 +1,178 @@
+-- What is left of patterns once a label is fixed, and the keys that are left for it.
+use Rattle.std.specs.Prelude.{◌≡◌, ◌≢◌, ℕ, ◌+◌, ◌<◌, ◌≤◌, ◌^◌, true, List, [], ◌∷◌, ◌++◌, length, take, slice_index_or, refl, Option, None, Some, IfSome}
+use Rattle.std.proofs.Common.{sym, ◌∙◌, ap, subst, arith}
+use Rattle.std.specs.Ordering.{nat_cmp}
+use Rattle.hypertrie_model.specs.IdSets.{IdSet}
+use Rattle.hypertrie_model.specs.Sets.{has, empty, HasDepth}
+use Rattle.hypertrie_model.specs.Slices.{slice_at_mask}
+use Rattle.trie_depth.specs.Masks.{FitsDepth, n_positions}
+use Rattle.trie_depth.specs.Operands.{Admits, IsIdTuple}
+use Rattle.trie_depth.specs.OperandLaws.{admits-small}
+use Rattle.bag_model.specs.Solutions.{image}
+use Rattle.key_join.specs.Common.{AllFit, AllAdmit}
+use Rattle.trie_depth.specs.declared.id.Id.{Id}
+use Rattle.trie_depth.specs.declared.mask.Mask.{Mask}
+use Rattle.bag_list.specs.declared.labels.Labels.{Labels}
+use Rattle.bag_list.specs.declared.track.Part.{Part}
+use Rattle.bag_list.specs.declared.track.Track.{Track}
+use Rattle.bag_list.specs.Labels.{placed, labels_of, mask_of, without}
+use Rattle.bag_list.specs.Tracks.{AdmitsAt, AllAdmitAt, IsFixed, IsPart, IsSameTo, part_at}
+use Rattle.std.proofs.lemmas.List.{get_or_default, get_or-set_same, get_or-set_other, take_more_set, length-take-le}
+use Rattle.std.specs.Prelude.{slice_set}
+use native.Mathlib.Decide.{dec_lt}
+use Rattle.bag_list.proofs.Images.{has-slice, at-is_at, mask-fits, positions-left}
+use Rattle.bag_list.proofs.Places.{both_more, element, to_next}
+
+placed-short : (p q r : Option ℕ) → length (placed (p ∷ q ∷ r ∷ [])) ≤ 3
+placed-short None None None = omega arith
+placed-short None None (Some c) = omega arith
+placed-short None (Some b) None = omega arith
+placed-short None (Some b) (Some c) = omega arith
+placed-short (Some a) None None = omega arith
+placed-short (Some a) None (Some c) = omega arith
+placed-short (Some a) (Some b) None = omega arith
+placed-short (Some a) (Some b) (Some c) = omega arith
+
+pub labels-short : (ls : Labels) → length (labels_of ls) ≤ 3
+labels-short ls = placed-short ls.0 ls.1 ls.2
+
+module _ {O : Type 0} (depth_of : O → ℕ) (tuples : O → IdSet) (deep : (o : O) → HasDepth (depth_of o) (tuples o)) where
+  pub part-deep : (p : Part O) → IsPart depth_of tuples p → HasDepth (length (labels_of p.labels)) (tuples p.op)
+  part-deep p is = subst (λ d. HasDepth d (tuples p.op)) is.deep (deep p.op)
+
+  -- the slice at the positions of a label
+  pub fixed-slice : (l k m : ℕ) (p : Part O) (op : O) (ls : Labels) → IsPart depth_of tuples p → m ≡ mask_of l (labels_of p.labels) → labels_of ls ≡ without l (labels_of p.labels) → tuples op ≡ slice_at_mask nat_cmp (tuples p.op) m k → slice_at_mask nat_cmp (tuples p.op) m k ≢ empty nat_cmp → depth_of op + n_positions m ≡ depth_of p.op → IsFixed depth_of tuples l k p (record { op = op; labels = ls })
+  fixed-slice l k m p op ls is mask labels slice some depth = record {
+    part = record {
+      deep =
+          let left = positions-left l (labels_of p.labels) (labels-short p.labels) in
+          let same = ap n_positions mask in
+          let whole = is.deep in
+          let n = ap length labels in
+          omega (arith, left, same, depth, whole, n);
+      some = λ e. some (sym slice ∙ e);
+    };
+    labels = labels;
+    image = λ a here.
+        (λ j. has ((slice ∙ ap (λ i. slice_at_mask nat_cmp (tuples p.op) i k) mask) j) (image a (labels j)))
+        ∙ has-slice l k a (at-is_at l k a here) (tuples p.op) (labels_of p.labels) (part-deep p is);
+  }
+
+  pub admitted-small : (small : (o : O) (t : List ℕ) → has (tuples o) t ≡ true → IsIdTuple t) (l k : ℕ) (p : Part O) → IsPart depth_of tuples p → 1 ≤ mask_of l (labels_of p.labels) → AdmitsAt tuples l p k → k < 2 ^ 32
+  admitted-small small l k p is some admits = admits-small (tuples p.op) (length (labels_of p.labels)) (mask_of l (labels_of p.labels)) k (part-deep p is) (small p.op) (mask-fits l (labels_of p.labels) some) (admits some)
+
+-- ---- one pattern after another
+
+-- below i the patterns have the key fixed, and the others are as before
+pub record AreEntered {O : Type 0} (depth_of : O → ℕ) (tuples : O → IdSet) (depth l k : ℕ) (old now : List (Track O)) (i : ℕ) : Type 0 where
+  pub same : (j : ℕ) (t : Track O) → j < i → IsSameTo depth (slice_index_or old j t) (slice_index_or now j t)
+  pub entered : (j : ℕ) (t : Track O) (p : Part O) → j < i → IsFixed depth_of tuples l k (part_at old depth j t p) (part_at now (depth + 1) j t p)
+  pub rest : (j : ℕ) (t : Track O) → i ≤ j → slice_index_or now j t ≡ slice_index_or old j t
+
+-- of the first i patterns, those that have the label were taken
+pub record AreGathered {O : Type 0} (depth_of : O → ℕ) (tuples : O → IdSet) (tracks : List (Track O)) (depth l : ℕ) (ops : List O) (masks : List Mask) (count i : ℕ) : Type 0 where
+  pub within : count ≤ i
+  pub fit : AllFit depth_of (take count ops) (take count masks)
+  pub asked : (k : ℕ) → ((j : ℕ) (t : Track O) (p : Part O) → j < i → AdmitsAt tuples l (part_at tracks depth j t p) k) → AllAdmit tuples (take count ops) (take count masks) k
+  pub some : (j : ℕ) → j < i → ((t : Track O) (p : Part O) → 1 ≤ mask_of l (labels_of (part_at tracks depth j t p).labels)) → 1 ≤ count
+
+module _ {O : Type 0} where
+  -- which default is asked for makes no difference within the lists
+  pub part-is : (tracks : List (Track O)) (depth i : ℕ) (x : Track O) (q : Part O) → i < length tracks → x ≡ slice_index_or tracks i x → depth < length x.parts.items → q ≡ slice_index_or x.parts.items depth q → (t : Track O) (p : Part O) → part_at tracks depth i t p ≡ q
+  part-is tracks depth i x q lt is low at t p =
+      ap (λ y. slice_index_or y.parts.items depth p) (get_or_default tracks i t x lt ∙ sym is)
+      ∙ get_or_default x.parts.items depth p q low ∙ sym at
+
+module _ {O : Type 0} (depth_of : O → ℕ) (tuples : O → IdSet) (depth l k : ℕ) (old now : List (Track O)) (i : ℕ) (x y : Track O) (same_length : length now ≡ length old) (lt : i < length now) (is : x ≡ slice_index_or now i x) (before : AreEntered depth_of tuples depth l k old now i) where
+  x-old : (t : Track O) → x ≡ slice_index_or old i t
+  x-old t = is ∙ get_or_default now i x t lt ∙ before.rest i t (omega arith)
+
+  -- the one that is entered next has the same parts before
+  pub same_more : IsSameTo depth x y → (j : ℕ) (t : Track O) → IsSameTo depth (slice_index_or old j t) (slice_index_or (slice_set now i y) j t)
+  same_more same j t = elim (dec_lt j i) as (λ _. IsSameTo depth (slice_index_or old j t) (slice_index_or (slice_set now i y) j t)) [
+    | yes low ↦ subst (IsSameTo depth (slice_index_or old j t)) (sym (get_or-set_other now i j y t (λ e. omega (arith, e, low)))) (before.same j t low)
+    | no high ↦ elim (dec_lt i j) as (λ _. IsSameTo depth (slice_index_or old j t) (slice_index_or (slice_set now i y) j t)) [
+      | yes above ↦
+          subst (IsSameTo depth (slice_index_or old j t)) (sym (get_or-set_other now i j y t (λ e. omega (arith, e, above)) ∙ before.rest j t (omega (arith, above))))
+          (record { start = refl; room = refl; parts = λ _ _ _. refl })
+      | no low ↦
+          let here : i ≡ j = omega (arith, high, low) in
+          subst (λ m. IsSameTo depth (slice_index_or old m t) (slice_index_or (slice_set now i y) m t)) here
+          (subst (λ z. IsSameTo depth z (slice_index_or (slice_set now i y) i t)) (x-old t)
+          (subst (IsSameTo depth x) (sym (get_or-set_same now i y t lt)) same))
+    ]
+  ]
+
+  pub entered_more : IsSameTo depth x y → ((p : Part O) → IsFixed depth_of tuples l k (slice_index_or x.parts.items depth p) (slice_index_or y.parts.items (depth + 1) p)) → AreEntered depth_of tuples depth l k old (slice_set now i y) (i + 1)
+  entered_more same fixed = record {
+    same = λ j t _. same_more same j t;
+    entered = λ j t p. to_next i (λ j. IsFixed depth_of tuples l k (part_at old depth j t p) (part_at (slice_set now i y) (depth + 1) j t p))
+        (λ j low. subst (λ z. IsFixed depth_of tuples l k (part_at old depth j t p) (slice_index_or z.parts.items (depth + 1) p)) (sym (get_or-set_other now i j y t (λ e. omega (arith, e, low)))) (before.entered j t p low))
+        (subst (λ z. IsFixed depth_of tuples l k (slice_index_or z.parts.items depth p) (slice_index_or (slice_index_or (slice_set now i y) i t).parts.items (depth + 1) p)) (x-old t)
+        (subst (λ z. IsFixed depth_of tuples l k (slice_index_or x.parts.items depth p) (slice_index_or z.parts.items (depth + 1) p)) (sym (get_or-set_same now i y t lt)) (fixed p)))
+        j;
+    rest = λ j t le. get_or-set_other now i j y t (λ e. omega (arith, e, le)) ∙ before.rest j t (omega (arith, le));
+  }
+
+module _ {O : Type 0} (depth_of : O → ℕ) (tuples : O → IdSet) (tracks : List (Track O)) (depth l : ℕ) (ops : List O) (masks : List Mask) (count i : ℕ) (x : Track O) (q : Part O) (m : Mask) (is : (t : Track O) (p : Part O) → part_at tracks depth i t p ≡ q) (mask : m.0 ≡ mask_of l (labels_of q.labels)) (before : AreGathered depth_of tuples tracks depth l ops masks count i) where
+  -- one that has the label
+  pub gathered_more : IsPart depth_of tuples q → 0 < m.0 → count < length ops → length ops ≡ length masks → AreGathered depth_of tuples tracks depth l (slice_set ops count q.op) (slice_set masks count m) (count + 1) (i + 1)
+  gathered_more part some lt long = record {
+    within = let w = before.within in omega (arith, w);
+    fit = λ j o n. subst (λ xs. j < length xs → FitsDepth (slice_index_or (take (count + 1) (slice_set masks count m)) j n).0 (depth_of (slice_index_or xs j o))) (sym ops_more)
+        (subst (λ ys. j < length (take count ops ++ q.op ∷ []) → FitsDepth (slice_index_or ys j n).0 (depth_of (slice_index_or (take count ops ++ q.op ∷ []) j o))) (sym masks_more)
+        (both_more (λ o n. FitsDepth n.0 (depth_of o)) (take count ops) (take count masks) q.op m taken before.fit fits j o n));
+    asked = λ k admit j o n. subst (λ xs. j < length xs → Admits (tuples (slice_index_or xs j o)) (slice_index_or (take (count + 1) (slice_set masks count m)) j n).0 k) (sym ops_more)
+        (subst (λ ys. j < length (take count ops ++ q.op ∷ []) → Admits (tuples (slice_index_or (take count ops ++ q.op ∷ []) j o)) (slice_index_or ys j n).0 k) (sym masks_more)
+        (both_more (λ o n. Admits (tuples o) n.0 k) (take count ops) (take count masks) q.op m taken (before.asked k (λ j t p low. admit j t p (omega (arith, low)))) (λ none. none_left k admit none) j o n));
+    some = λ j low e. omega arith;
+  } where
+    ops_more : take (count + 1) (slice_set ops count q.op) ≡ take count ops ++ q.op ∷ []
+    ops_more = take_more_set ops count q.op lt
+
+    masks_more : take (count + 1) (slice_set masks count m) ≡ take count masks ++ m ∷ []
+    masks_more = take_more_set masks count m (omega (arith, lt, long))
+
+    taken : length (take count ops) ≡ length (take count masks)
+    taken = length-take-le count ops (omega (arith, lt)) ∙ sym (length-take-le count masks (omega (arith, lt, long)))
+
+    fits : FitsDepth m.0 (depth_of q.op)
+    fits =
+        subst (λ d. FitsDepth m.0 d) (sym part.deep)
+        (subst (λ b. FitsDepth b (length (labels_of q.labels))) (sym mask) (mask-fits l (labels_of q.labels) (omega (arith, some, mask))))
+
+    none_left : (k : ℕ) → ((j : ℕ) (t : Track O) (p : Part O) → j < i + 1 → AdmitsAt tuples l (part_at tracks depth j t p) k) → slice_at_mask nat_cmp (tuples q.op) m.0 k ≡ empty nat_cmp → ⊥
+    none_left k admit none =
+        let admits : AdmitsAt tuples l q k = subst (λ z. AdmitsAt tuples l z k) (is x q) (admit i x q (omega arith)) in
+        admits (omega (arith, some, mask)) (ap (λ b. slice_at_mask nat_cmp (tuples q.op) b k) (sym mask) ∙ none)
+
+  -- one that hasn't
+  pub gathered_same : m.0 ≤ 0 → AreGathered depth_of tuples tracks depth l ops masks count (i + 1)
+  gathered_same none = record {
+    within = let w = before.within in omega (arith, w);
+    fit = before.fit;
+    asked = λ k admit. before.asked k (λ j t p low. admit j t p (omega (arith, low)));
+    some = to_next i (λ j. ((t : Track O) (p : Part O) → 1 ≤ mask_of l (labels_of (part_at tracks depth j t p).labels)) → 1 ≤ count) before.some
+        (λ e. absurd (let here : 1 ≤ mask_of l (labels_of q.labels) = subst (λ z. 1 ≤ mask_of l (labels_of z.labels)) (is x q) (e x q) in omega (arith, none, mask, here)));
+  }
+
+-- the same of equal lists
+pub gathered_equal : {O : Type 0} (depth_of : O → ℕ) (tuples : O → IdSet) (tracks : List (Track O)) (depth l : ℕ) (ops ops' : List O) (masks masks' : List Mask) (count count' i : ℕ) → ops' ≡ ops → masks' ≡ masks → count' ≡ count → AreGathered depth_of tuples tracks depth l ops masks count i → AreGathered depth_of tuples tracks depth l ops' masks' count' i
+gathered_equal depth_of tuples tracks depth l ops ops' masks masks' count count' i o m n h =
+    subst (λ o. AreGathered depth_of tuples tracks depth l o masks' count' i) (sym o)
+    (subst (λ m. AreGathered depth_of tuples tracks depth l ops m count' i) (sym m)
+    (subst (λ n. AreGathered depth_of tuples tracks depth l ops masks n i) (sym n) h))
+
+module _ {O : Type 0} (depth_of : O → ℕ) (tuples : O → IdSet) (deep : (o : O) → HasDepth (depth_of o) (tuples o)) (small : (o : O) (t : List ℕ) → has (tuples o) t ≡ true → IsIdTuple t) (tracks : List (Track O)) (depth l k : ℕ) where
+  -- every key that is admitted is the number of an id
+  pub not_past : ((i : ℕ) (t : Track O) → i < length tracks → depth < length (slice_index_or tracks i t).parts.items) → ((i : ℕ) (t : Track O) (p : Part O) → i < length tracks → IsPart depth_of tuples (part_at tracks depth i t p)) → ((i : ℕ) × (i < length tracks) × ((t : Track O) (p : Part O) → 1 ≤ mask_of l (labels_of (part_at tracks depth i t p).labels))) → 2 ^ 32 ≤ k → AllAdmitAt tuples tracks depth l k → ⊥
+  not_past room parts some le admit =
+      let t = element tracks some.0 some.1 in
+      let p = element (slice_index_or tracks some.0 t).parts.items depth (room some.0 t some.1) in
+      let lt = admitted-small depth_of tuples deep small l k (part_at tracks depth some.0 t p) (parts some.0 t p some.1) (some.2 t p) (admit some.0 t p some.1) in
+      omega (arith, le, lt)
+
+-- the least key of which less holds, from the same number on
+pub weaker_least : (r : Option Id) (a b : ℕ) (P Q : ℕ → Type 0) → a ≡ b → ((k : ℕ) → Q k → P k) → IfSome r (λ r. (k : ℕ) → b ≤ k → k < r.0 → P k → ⊥) → IfSome r (λ r. (k : ℕ) → a ≤ k → k < r.0 → Q k → ⊥)
+weaker_least None a b P Q is into h = tt
+weaker_least (Some r) a b P Q is into h = λ k le lt q. h k (omega (arith, is, le)) lt (into k q)

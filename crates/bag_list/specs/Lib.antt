@@ -1,0 +1,8 @@
+pub mod Labels
+pub mod Levels
+pub mod Tracks
+pub mod Search
+pub mod Rows
+pub mod Listing
+pub mod Starts
+pub mod Trials

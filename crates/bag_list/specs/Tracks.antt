@@ -1,0 +1,91 @@
+-- What is left of a pattern while labels are fixed.
+use Rattle.std.specs.Prelude.{◌≡◌, ◌≢◌, ℕ, ◌+◌, ◌<◌, ◌≤◌, true, List, [], ◌∷◌, length, map, take, slice_index_or, Option, None, Some, IfSome}
+use Rattle.std.specs.List.{AllByRecursion}
+use Rattle.std.specs.Ordering.{nat_cmp}
+use Rattle.hypertrie_model.specs.IdSets.{IdSet}
+use Rattle.hypertrie_model.specs.Sets.{has, empty}
+use Rattle.hypertrie_model.specs.Slices.{is_at}
+use Rattle.trie_depth.specs.Operands.{Admits}
+use Rattle.bag_model.specs.Solutions.{Rest, image}
+use Rattle.bag_list.specs.declared.level.Level.{Level}
+use Rattle.bag_list.specs.declared.track.Part.{Part}
+use Rattle.bag_list.specs.declared.track.Start.{Start}
+use Rattle.bag_list.specs.declared.track.Track.{Track}
+use Rattle.bag_list.specs.Labels.{array_labels, labels_of, mask_of, without}
+use Rattle.bag_list.specs.Levels.{agrees}
+
+-- the labels that the levels don't fix
+abbrev pub unfixed : List Level → List ℕ → List ℕ
+unfixed [] ls = ls
+unfixed (f ∷ fs) ls = unfixed fs (without f.label ls)
+
+-- what is left of a pattern after so many levels
+abbrev pub part_at : {O : Type 0} → List (Track O) → ℕ → ℕ → Track O → Part O → Part O
+part_at tracks depth i t p = slice_index_or (slice_index_or tracks i t).parts.items depth p
+
+-- t has the same start as s, and the same parts up to this depth
+pub record IsSameTo {O : Type 0} (depth : ℕ) (s t : Track O) : Type 0 where
+  pub start : t.start ≡ s.start
+  pub room : length t.parts.items ≡ length s.parts.items
+  pub parts : (j : ℕ) (p : Part O) → j ≤ depth → slice_index_or t.parts.items j p ≡ slice_index_or s.parts.items j p
+
+-- some start has no operand
+abbrev pub HasEmpty : {O : Type 0} → List (Start O) → Type 0
+HasEmpty starts = (i : ℕ) × (i < length starts) × ((s : Start _) → (slice_index_or starts i s).op ≡ None)
+
+module _ {O : Type 0} (tuples : O → IdSet) where
+  abbrev pub rest_of : Part O → Rest nat_cmp
+  rest_of p = record { tuples = tuples p.op; labels = labels_of p.labels }
+
+  -- the patterns as they were before a label was fixed
+  abbrev pub rests : List (Track O) → List (Rest nat_cmp)
+  rests tracks = map (λ t. rest_of t.start) tracks
+
+  -- some key is left for k at the label l, if it has the label
+  abbrev pub AdmitsAt : ℕ → Part O → ℕ → Type 0
+  AdmitsAt l p k = 1 ≤ mask_of l (labels_of p.labels) → Admits (tuples p.op) (mask_of l (labels_of p.labels)) k
+
+  -- each pattern that has the label l after so many levels admits k there
+  abbrev pub AllAdmitAt : List (Track O) → ℕ → ℕ → ℕ → Type 0
+  AllAdmitAt tracks depth l k = (i : ℕ) (t : Track O) (p : Part O) → i < length tracks → AdmitsAt l (part_at tracks depth i t p) k
+
+  -- the set of a start, empty where it has no operand
+  abbrev pub start_set : Option O → IdSet
+  start_set None = empty nat_cmp
+  start_set (Some o) = tuples o
+
+  abbrev pub rests_of : List (Start O) → List (Rest nat_cmp)
+  rests_of starts = map (λ s. record { tuples = start_set s.op; labels = array_labels s.labels }) starts
+
+module _ {O : Type 0} (depth_of : O → ℕ) (tuples : O → IdSet) where
+  -- the operand has a position for each label, and some tuple
+  pub record IsPart (p : Part O) : Type 0 where
+    pub deep : depth_of p.op ≡ length (labels_of p.labels)
+    pub some : tuples p.op ≢ empty nat_cmp
+
+  -- r is what is left of p where the label l has the key k
+  pub record IsFixed (l k : ℕ) (p r : Part O) : Type 0 where
+    pub part : IsPart r
+    pub labels : labels_of r.labels ≡ without l (labels_of p.labels)
+    pub image : (a : List ℕ) → is_at nat_cmp l k a ≡ true → has (tuples r.op) (image a (labels_of r.labels)) ≡ has (tuples p.op) (image a (labels_of p.labels))
+
+  -- p is what the keys of the levels leave of s
+  pub record IsLeft (fs : List Level) (s p : Part O) : Type 0 where
+    pub part : IsPart p
+    pub labels : labels_of p.labels ≡ unfixed fs (labels_of s.labels)
+    pub image : (a : List ℕ) → agrees fs a ≡ true → has (tuples p.op) (image a (labels_of p.labels)) ≡ has (tuples s.op) (image a (labels_of s.labels))
+
+  -- before each of the first m levels, and n in all, there stands what the levels before it leave
+  pub record IsTrack (n m : ℕ) (fs : List Level) (t : Track O) : Type 0 where
+    pub room : length t.parts.items ≡ n + 1
+    pub below : AllByRecursion (λ l. l < n) (labels_of t.start.labels)
+    pub left : (j : ℕ) (p : Part O) → j < m → IsLeft (take j fs) t.start (slice_index_or t.parts.items j p)
+
+  -- the operand, if there is one, has a position for each label, and some tuple; the labels are below n
+  pub record IsStart (n : ℕ) (s : Start O) : Type 0 where
+    pub below : AllByRecursion (λ l. l < n) (array_labels s.labels)
+    pub deep : IfSome s.op (λ o. depth_of o ≡ length (array_labels s.labels))
+    pub some : IfSome s.op (λ o. tuples o ≢ empty nat_cmp)
+
+  abbrev pub AreTracks : ℕ → ℕ → List Level → List (Track O) → Type 0
+  AreTracks n m fs tracks = (i : ℕ) (t : Track O) → i < length tracks → IsTrack n m fs (slice_index_or tracks i t)

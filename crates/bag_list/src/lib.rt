@@ -1,0 +1,15 @@
+//! The rows of a basic graph pattern, listed one by one. One label is fixed after another, each at the keys that all
+//! patterns with it have in common; no memory is taken after `make`. `bag_model` says which rows answer a query, and
+//! `specs/Listing.antt` which rows are still to come.
+#![tactic(auto)]
+
+mod labels;
+mod level;
+mod lister;
+mod search;
+#[cfg(test)]
+mod tests;
+mod track;
+
+pub use lister::Lister;
+pub use track::Start;

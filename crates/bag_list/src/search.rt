@@ -1,0 +1,214 @@
+//! The search for solutions. Labels are fixed one after another, and the last one goes on to its next key.
+ghost use Rattle.std.specs.Prelude.{◌≡◌, ◌<◌, ◌≤◌, ℕ, true, false, List, [], ◌∷◌, ◌++◌, IsTrue, IfOk, IfSome, length, slice_index_or};
+ghost use Rattle.std.specs.List.{AllByRecursion};
+ghost use Rattle.std.specs.List.Sorted.{IsPermutation};
+ghost use Rattle.std.specs.Ordering.{nat_cmp};
+ghost use Rattle.bag_model.specs.Solutions.{HaveLabels};
+ghost use Rattle.bag_list.specs.Rows.{Row, row_here, rows_to_come};
+ghost use Rattle.bag_list.specs.Search.{IsKept, IsSameQuery, coming_of, id_solutions, steps_left};
+ghost use Rattle.bag_list.specs.Tracks.{IsPart, IsStart, part_at, rests_of};
+
+use crate::level::{Level, after, levels_of};
+use crate::track::{Start, Track, enter_all, n_keys, next_key, ops_of, tracks_of};
+use query_plan::choose;
+use std::alloc::Global;
+use std::sync::ledger::Ledger;
+use trie_depth::{Id, Mask, Memory, Operand, Steps};
+
+/// As many places as there can be labels, all allowed.
+static ALLOWED: [bool; 96] = [true; 96];
+
+/// Where the search stands. The labels of the first `depth` levels are fixed.
+#[derive(Drop)]
+pub struct Search<O: Operand> {
+    pub columns: Vec<Option<u8>>,
+    pub distinct: bool,
+    pub levels: Vec<Level>,
+    pub depth: usize,
+    /// Whether all that the fixed labels leave is still to come.
+    pub fresh: bool,
+    /// The labels of so many levels tell rows apart.
+    pub told: usize,
+    pub tracks: Vec<Track<O>>,
+    /// The key of each label, where it is fixed.
+    pub values: Vec<Id>,
+    pub ops: Vec<O>,
+    pub masks: Vec<Mask>,
+    pub counts: Vec<u64>,
+}
+
+impl<O: Operand> Search<O> {
+    /// Nothing is fixed. Where a pattern is empty, nothing is to come.
+    pub fn of(
+        alloc: Global,
+        starts: &[Start<O>],
+        n: u8,
+        columns: Vec<Option<u8>>,
+        distinct: bool,
+    ) -> Result<Search<O>, Memory>
+        requires few { n ≤ 96 }
+        requires starts { (i : ℕ) (s : _) → i < length starts.now → IsStart O.depth_of O.tuples n (slice_index_or starts.now i s) }
+        requires labels { HaveLabels nat_cmp n (rests_of O.tuples starts.now) }
+        requires columns { AllByRecursion (λ v. IfSome v (λ l. l < n)) columns.items }
+        ensures kept { IfOk result (λ s. IsKept O.depth_of O.tuples s) }
+        ensures coming { IfOk result (λ s. coming_of O.tuples s ≡ id_solutions n (rests_of O.tuples starts.now)) }
+        ensures same { IfOk result (λ s. (s.columns.items ≡ columns.items) × (s.distinct ≡ distinct)) }
+    {
+        let (levels, told) = levels_of(alloc, n, &columns, distinct)?;
+        let n = usize::from(n);
+        let (tracks, fresh) = tracks_of(alloc, starts, n)?;
+        let values = vec![in alloc; Id(0); n]?;
+        let ops = ops_of(alloc, &tracks)?;
+        let masks = vec![in alloc; Mask(0); tracks.len()]?;
+        let counts = vec![in alloc; 0; n]?;
+        Ok(Search {
+            columns,
+            distinct,
+            levels,
+            depth: 0,
+            fresh,
+            told,
+            tracks,
+            values,
+            ops,
+            masks,
+            counts,
+        })
+    }
+
+    /// Goes to the next row that is chosen from. False where none is left.
+    pub fn next_row<W: Ledger>(&mut self, reads: &mut Steps<W>) -> bool
+        requires { IsKept O.depth_of O.tuples self.old }
+        ensures kept { IsKept O.depth_of O.tuples self.new }
+        ensures same { IsSameQuery O.tuples self.old self.new }
+        ensures none { result ≡ false → (rows_to_come O.tuples self.old ≡ []) × (rows_to_come O.tuples self.new ≡ []) }
+        ensures some { IsTrue result → IsPermutation (rows_to_come O.tuples self.old) (row_here self.new ∷ rows_to_come O.tuples self.new) }
+    {
+        loop {
+            if !self.fresh {
+                if self.depth == 0 {
+                    return false;
+                }
+                self.go_on(reads);
+            } else if self.depth < self.levels.len() {
+                self.open(reads);
+            } else {
+                self.fresh = false;
+                self.depth = self.told;
+                return true;
+            }
+        }
+    }
+
+    /// Chooses the label that is fixed next.
+    fn open<W: Ledger>(&mut self, reads: &mut Steps<W>)
+        requires kept { IsKept O.depth_of O.tuples self.old }
+        requires fresh { self.old.fresh ≡ true }
+        requires deeper { self.old.depth < length self.old.levels.items }
+        ensures kept { IsKept O.depth_of O.tuples self.new }
+        ensures same { IsSameQuery O.tuples self.old self.new }
+        ensures coming { coming_of O.tuples self.new ≡ coming_of O.tuples self.old }
+        ensures less { steps_left self.new < steps_left self.old }
+    {
+        let chosen = choice(
+            &self.tracks,
+            &self.levels,
+            self.depth,
+            self.told,
+            &mut self.counts,
+            reads,
+        );
+        self.levels.swap(self.depth, chosen);
+        let label = self.levels[self.depth].label;
+        self.levels[self.depth] = Level {
+            label,
+            key: self.values[usize::from(label)],
+            from: Some(Id(0)),
+        };
+        self.depth += 1;
+        self.fresh = false;
+    }
+
+    /// Fixes the last label at its next key, or gives it up where there is none.
+    fn go_on<W: Ledger>(&mut self, reads: &mut Steps<W>)
+        requires kept { IsKept O.depth_of O.tuples self.old }
+        requires stale { self.old.fresh ≡ false }
+        requires deep { 0 < self.old.depth }
+        ensures kept { IsKept O.depth_of O.tuples self.new }
+        ensures same { IsSameQuery O.tuples self.old self.new }
+        ensures coming { IsPermutation (coming_of O.tuples self.old) (coming_of O.tuples self.new) }
+        ensures less { steps_left self.new < steps_left self.old }
+    {
+        let last = self.depth - 1;
+        let Level { label, from, .. } = self.levels[last];
+        match next_key(
+            &self.tracks,
+            last,
+            label,
+            from,
+            &mut self.ops,
+            &mut self.masks,
+            reads,
+        ) {
+            None => self.depth = last,
+            Some(key) => {
+                self.levels[last] = Level {
+                    label,
+                    key,
+                    from: after(key),
+                };
+                self.values[usize::from(label)] = key;
+                self.fresh = enter_all(&mut self.tracks, last, label, key, reads);
+            }
+        }
+    }
+}
+
+/// The place of the label with the fewest keys; one that tells rows apart while there is one.
+fn choice<O: Operand, W: Ledger>(
+    tracks: &[Track<O>],
+    levels: &[Level],
+    depth: usize,
+    told: usize,
+    counts: &mut [u64],
+    reads: &mut Steps<W>,
+) -> usize
+    requires room { (i : ℕ) (t : _) → i < length tracks.now → depth < length (slice_index_or tracks.now i t).parts.items }
+    requires parts { (i : ℕ) (t : _) (p : _) → i < length tracks.now → IsPart O.depth_of O.tuples (part_at tracks.now depth i t p) }
+    requires depth { depth < length levels.now }
+    requires told { told ≤ length levels.now }
+    requires few { length levels.now ≤ 96 }
+    requires counts { length counts.old ≡ length levels.now }
+    ensures from { depth ≤ result }
+    ensures within { result < length levels.now }
+    ensures telling { depth < told → result < told }
+{
+    let end = if depth < told { told } else { levels.len() };
+    if depth + 1 < end {
+        for i in depth..end {
+            counts[i] = n_keys(tracks, depth, levels[i].label, reads);
+        }
+    }
+    let first = choose(&counts[depth..end], &ALLOWED[..end - depth]);
+    depth + first.unwrap_or(0)
+}
+
+/// Leaves so many rows out. False where fewer are to come.
+pub fn leave_out<O: Operand, W: Ledger>(
+    search: &mut Search<O>,
+    n: u64,
+    reads: &mut Steps<W>,
+) -> bool
+    requires { IsKept O.depth_of O.tuples search.old }
+    ensures kept { IsKept O.depth_of O.tuples search.new }
+    ensures same { IsSameQuery O.tuples search.old search.new }
+    ensures none { result ≡ false → (length (rows_to_come O.tuples search.old) < n) × (rows_to_come O.tuples search.new ≡ []) }
+    ensures some { IsTrue result → (left : List Row) × (length left ≡ n) × IsPermutation (rows_to_come O.tuples search.old) (left ++ rows_to_come O.tuples search.new) }
+{
+    for _row in 0..n {
+        if !search.next_row(reads) {
+            return false;
+        }
+    }
+    true
+}

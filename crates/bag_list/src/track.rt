@@ -1,0 +1,228 @@
+//! A pattern as it is while labels are fixed.
+ghost use Rattle.std.specs.Prelude.{◌≡◌, ◌+◌, ◌^◌, ◌<◌, ◌≤◌, ℕ, List, true, false, IsTrue, IsNone, IfSome, IfOk, length, take, slice_index_or, MatchOption};
+ghost use Rattle.key_join.specs.Common.{AllFit, AllAdmit};
+ghost use Rattle.bag_list.specs.Labels.{labels_of, mask_of};
+ghost use Rattle.bag_list.specs.Levels.{from_of};
+ghost use Rattle.bag_list.specs.declared.level.Level.{Level};
+ghost use Rattle.bag_list.specs.Tracks.{AdmitsAt, AllAdmitAt, IsFixed, IsPart, IsSameTo, IsStart, AreTracks, HasEmpty, part_at, rests, rests_of};
+
+use crate::labels::Labels;
+use key_join::next_common;
+use std::alloc::Global;
+use std::sync::ledger::Ledger;
+use trie_depth::{Id, Mask, Memory, Operand, Steps};
+
+/// A pattern after its constants were fixed: the operand that is left, None where it is empty, and the labels of the
+/// operand's positions in order.
+#[derive(Clone, Copy)]
+pub struct Start<O> {
+    pub op: Option<O>,
+    pub labels: [Option<u8>; 3],
+}
+
+/// What is left of a pattern: an operand, and the labels of its positions.
+#[derive(Clone, Copy)]
+pub struct Part<O> {
+    pub op: O,
+    pub labels: Labels,
+}
+
+/// A pattern with nothing fixed, and what is left of it with the labels of the first so many levels fixed.
+#[derive(Drop)]
+pub struct Track<O: Operand> {
+    pub start: Part<O>,
+    pub parts: Vec<Part<O>>,
+}
+
+impl<O: Operand> Track<O> {
+    /// With room for so many levels.
+    pub fn of(alloc: Global, start: Part<O>, n: usize) -> Result<Track<O>, Memory>
+        requires { n ≤ 96 }
+        ensures start { IfOk result (λ t. t.start ≡ start) }
+        ensures room { IfOk result (λ t. length t.parts.items ≡ n + 1) }
+        ensures parts { IfOk result (λ t. (j : ℕ) (p : _) → j < n + 1 → slice_index_or t.parts.items j p ≡ start) }
+    {
+        let mut parts = Vec::new(alloc);
+        for _level in 0..n + 1 {
+            parts.push(start)?;
+        }
+        Ok(Track { start, parts })
+    }
+
+    /// Fixes the label of a level at a key. False where nothing is left.
+    fn enter<W: Ledger>(&mut self, depth: usize, label: u8, key: Id, reads: &mut Steps<W>) -> bool
+        requires room { depth + 1 < length self.old.parts.items }
+        requires part { (p : _) → IsPart O.depth_of O.tuples (slice_index_or self.old.parts.items depth p) }
+        ensures same { IsSameTo depth self.old self.new }
+        ensures some { IsTrue result → (p : _) → IsFixed O.depth_of O.tuples label key.0 (slice_index_or self.old.parts.items depth p) (slice_index_or self.new.parts.items (depth + 1) p) }
+        ensures none { result ≡ false → ((p : _) → AdmitsAt O.tuples label (slice_index_or self.old.parts.items depth p) key.0) → ⊥ }
+    {
+        let part = self.parts[depth];
+        match fixed(part, label, key, reads) {
+            Some(next) => {
+                self.parts[depth + 1] = next;
+                true
+            }
+            None => false,
+        }
+    }
+}
+
+/// What is left once a label is fixed at a key, if anything is.
+fn fixed<O: Operand, W: Ledger>(
+    part: Part<O>,
+    label: u8,
+    key: Id,
+    reads: &mut Steps<W>,
+) -> Option<Part<O>>
+    requires { IsPart O.depth_of O.tuples part }
+    ensures some { IfSome result (λ r. IsFixed O.depth_of O.tuples label key.0 part r) }
+    ensures none { IsNone result → AdmitsAt O.tuples label part key.0 → ⊥ }
+{
+    let mask = part.labels.mask(label);
+    if mask.0 == 0 {
+        return Some(part);
+    }
+    let op = part.op.fix(mask, key, reads)?;
+    Some(Part {
+        op,
+        labels: part.labels.without(label),
+    })
+}
+
+/// Fixes the label of a level at a key in every pattern. False where nothing is left of one.
+pub fn enter_all<O: Operand, W: Ledger>(
+    tracks: &mut [Track<O>],
+    depth: usize,
+    label: u8,
+    key: Id,
+    reads: &mut Steps<W>,
+) -> bool
+    requires room { (i : ℕ) (t : _) → i < length tracks.old → depth + 1 < length (slice_index_or tracks.old i t).parts.items }
+    requires parts { (i : ℕ) (t : _) (p : _) → i < length tracks.old → IsPart O.depth_of O.tuples (part_at tracks.old depth i t p) }
+    ensures same { (i : ℕ) (t : _) → i < length tracks.old → IsSameTo depth (slice_index_or tracks.old i t) (slice_index_or tracks.new i t) }
+    ensures some { IsTrue result → (i : ℕ) (t : _) (p : _) → i < length tracks.old → IsFixed O.depth_of O.tuples label key.0 (part_at tracks.old depth i t p) (part_at tracks.new (depth + 1) i t p) }
+    ensures none { result ≡ false → AllAdmitAt O.tuples tracks.old depth label key.0 → ⊥ }
+{
+    for i in 0..tracks.len() {
+        let track = &mut tracks[i];
+        if !track.enter(depth, label, key, reads) {
+            return false;
+        }
+    }
+    true
+}
+
+/// The operands and masks of the patterns that have a label, and how many these are.
+fn gather<O: Operand>(
+    tracks: &[Track<O>],
+    depth: usize,
+    label: u8,
+    ops: &mut [O],
+    masks: &mut [Mask],
+) -> usize
+    requires room { (i : ℕ) (t : _) → i < length tracks.now → depth < length (slice_index_or tracks.now i t).parts.items }
+    requires parts { (i : ℕ) (t : _) (p : _) → i < length tracks.now → IsPart O.depth_of O.tuples (part_at tracks.now depth i t p) }
+    requires ops { length ops.old ≡ length tracks.now }
+    requires masks { length masks.old ≡ length tracks.now }
+    ensures within { result ≤ length tracks.now }
+    ensures fit { AllFit O.depth_of (take result ops.new) (take result masks.new) }
+    ensures asked { (k : ℕ) → AllAdmitAt O.tuples tracks.now depth label k → AllAdmit O.tuples (take result ops.new) (take result masks.new) k }
+    ensures some { ((i : ℕ) × (i < length tracks.now) × ((t : _) (p : _) → 1 ≤ mask_of label (labels_of (part_at tracks.now depth i t p).labels))) → 1 ≤ result }
+{
+    let mut count = 0;
+    for i in 0..tracks.len() {
+        let track = &tracks[i];
+        let part = track.parts[depth];
+        let mask = part.labels.mask(label);
+        if mask.0 > 0 {
+            ops[count] = part.op;
+            masks[count] = mask;
+            count += 1;
+        }
+    }
+    count
+}
+
+/// The least key from `from` on at which each pattern that has the label can be fixed.
+pub fn next_key<O: Operand, W: Ledger>(
+    tracks: &[Track<O>],
+    depth: usize,
+    label: u8,
+    from: Option<Id>,
+    ops: &mut [O],
+    masks: &mut [Mask],
+    reads: &mut Steps<W>,
+) -> Option<Id>
+    requires room { (i : ℕ) (t : _) → i < length tracks.now → depth < length (slice_index_or tracks.now i t).parts.items }
+    requires parts { (i : ℕ) (t : _) (p : _) → i < length tracks.now → IsPart O.depth_of O.tuples (part_at tracks.now depth i t p) }
+    requires ops { length ops.old ≡ length tracks.now }
+    requires masks { length masks.old ≡ length tracks.now }
+    requires some { (i : ℕ) × (i < length tracks.now) × ((t : _) (p : _) → 1 ≤ mask_of label (labels_of (part_at tracks.now depth i t p).labels)) }
+    ensures none { IsNone result → (k : ℕ) → from_of from ≤ k → AllAdmitAt O.tuples tracks.now depth label k → ⊥ }
+    ensures from { IfSome result (λ r. from_of from ≤ r.0) }
+    ensures small { IfSome result (λ r. r.0 < 2 ^ 32) }
+    ensures least { IfSome result (λ r. (k : ℕ) → from_of from ≤ k → k < r.0 → AllAdmitAt O.tuples tracks.now depth label k → ⊥) }
+{
+    let from = from?;
+    let count = gather(tracks, depth, label, ops, masks);
+    next_common(&ops[..count], &masks[..count], from, reads)
+}
+
+/// The least number of keys that a pattern has at a label.
+pub fn n_keys<O: Operand, W: Ledger>(
+    tracks: &[Track<O>],
+    depth: usize,
+    label: u8,
+    reads: &mut Steps<W>,
+) -> u64
+    requires room { (i : ℕ) (t : _) → i < length tracks.now → depth < length (slice_index_or tracks.now i t).parts.items }
+    requires parts { (i : ℕ) (t : _) (p : _) → i < length tracks.now → IsPart O.depth_of O.tuples (part_at tracks.now depth i t p) }
+{
+    let mut least = u64::MAX;
+    for i in 0..tracks.len() {
+        let track = &tracks[i];
+        let part = track.parts[depth];
+        let mask = part.labels.mask(label);
+        if mask.0 > 0 {
+            least = least.min(part.op.key_count(mask, reads));
+        }
+    }
+    least
+}
+
+/// The patterns of a search through so many labels, and whether these are all: none where one is empty.
+pub fn tracks_of<O: Operand>(
+    alloc: Global,
+    starts: &[Start<O>],
+    n: usize,
+) -> Result<(Vec<Track<O>>, bool), Memory>
+    requires few { n ≤ 96 }
+    requires starts { (i : ℕ) (s : _) → i < length starts.now → IsStart O.depth_of O.tuples n (slice_index_or starts.now i s) }
+    ensures tracks { IfOk result (λ r. (fs : List Level) → AreTracks O.depth_of O.tuples n 1 fs r.0.items) }
+    ensures whole { IfOk result (λ r. IsTrue r.1 → rests O.tuples r.0.items ≡ rests_of O.tuples starts.now) }
+    ensures empty { IfOk result (λ r. r.1 ≡ false → HasEmpty starts.now) }
+{
+    let mut tracks = Vec::new(alloc);
+    for i in 0..starts.len() {
+        let start = &starts[i];
+        let Some(op) = start.op else {
+            return Ok((Vec::new(alloc), false));
+        };
+        let labels = Labels(start.labels[0], start.labels[1], start.labels[2]);
+        tracks.push(Track::of(alloc, Part { op, labels }, n)?)?;
+    }
+    Ok((tracks, true))
+}
+
+/// The operand of each pattern.
+pub fn ops_of<O: Operand>(alloc: Global, tracks: &[Track<O>]) -> Result<Vec<O>, Memory>
+    ensures { IfOk result (λ ops. length ops.items ≡ length tracks.now) }
+{
+    let mut ops = Vec::new(alloc);
+    for i in 0..tracks.len() {
+        let track = &tracks[i];
+        ops.push(track.start.op)?;
+    }
+    Ok(ops)
+}

@@ -1,0 +1,6 @@
+pub mod Solutions
+pub mod Answers
+pub mod ListLaws
+pub mod AnswerLaws
+pub mod SolutionLaws
+pub mod Laws

@@ -1,2 +1,2 @@
-//! Definitions alone: what a command does to a graph and answers, and a run of commands.
+//! Definitions alone: what a command does to a graph and answers.
 #![tactic(auto)]

@@ -35,6 +35,8 @@ pub data Change : Type 0 where
 pub data Command : Type 0 where
   Block : (change : Change) (lines : List Line) → Command
   Dump : Command
+  Stats : Command
+  Shape : Command
   Bad : Command
   Unended : Command
 
@@ -48,7 +50,9 @@ abbrev pub form_of_text : List ℕ → Option Form
 form_of_text t =
     if bytes_eq t (codes "INSERT") then Some (Begins Inserts) else
     if bytes_eq t (codes "DELETE") then Some (Begins Deletes) else
-    if bytes_eq t (codes "DUMP") then Some (Whole Dump) else None
+    if bytes_eq t (codes "DUMP") then Some (Whole Dump) else
+    if bytes_eq t (codes "STATS") then Some (Whole Stats) else
+    if bytes_eq t (codes "SHAPE") then Some (Whole Shape) else None
 
 abbrev pub form_of : Line → Option Form
 form_of None = None
@@ -82,6 +86,8 @@ commands_of = outside
 abbrev pub is_closed : Command → Bool
 is_closed (Block change lines) = true
 is_closed Dump = true
+is_closed Stats = true
+is_closed Shape = true
 is_closed Bad = true
 is_closed Unended = false
 

@@ -8,4 +8,8 @@ pub enum Command {
     Delete,
     /// Prints the graph.
     Dump,
+    /// Prints how many triples, terms and rows there are.
+    Stats,
+    /// Prints the rows of the graph's shape.
+    Shape,
 }

@@ -13,6 +13,10 @@ const DELETE: &[u8] = b"DELETE";
 
 const DUMP: &[u8] = b"DUMP";
 
+const STATS: &[u8] = b"STATS";
+
+const SHAPE: &[u8] = b"SHAPE";
+
 fn is_blank(b: u8) -> bool
     ensures { result ≡ spec.is_blank b }
 {
@@ -63,6 +67,10 @@ pub fn command(line: &[u8]) -> Option<Command>
         Some(Command::Delete)
     } else if words == DUMP {
         Some(Command::Dump)
+    } else if words == STATS {
+        Some(Command::Stats)
+    } else if words == SHAPE {
+        Some(Command::Shape)
     } else {
         None
     }

@@ -1,0 +1,11 @@
+//! The texts of answers (docs/SCRIPT.md): the lines of refusals and of what was done. Each call puts its text exactly, or a
+//! front of it where the sink fails.
+#![tactic(auto)]
+
+mod pieces;
+mod reply;
+#[cfg(test)]
+mod tests;
+
+pub use pieces::put_lines;
+pub use reply::{Figures, Refusal, Reply, ok, put_figures, refused};

@@ -1,0 +1,30 @@
+//! Pieces that are put one after another.
+ghost use Rattle.std.specs.Prelude.{◌≡◌};
+ghost use Rattle.std.specs.List.{flat_map};
+ghost use Rattle.run_model.specs.Answers.{line_text};
+ghost use Rattle.answer_text.specs.Puts.{Puts};
+
+use tn_io::{Failed, Lines, Out, Sink};
+
+/// Puts pieces, one after another.
+pub(crate) fn put_pieces<K: Sink>(out: &mut Out<'_, K>, pieces: &[&[u8]]) -> Result<(), Failed>
+    ensures same_sink { out.new.sink.ghost_name ≡ out.old.sink.ghost_name }
+    ensures put { Puts K.written K.faults out.old out.new result (flat_map (λ p. p.now) pieces.now) }
+{
+    for piece in pieces {
+        out.put(piece)?;
+    }
+    Ok(())
+}
+
+/// Puts lines, each with its end.
+pub fn put_lines<K: Sink>(lines: &Lines, out: &mut Out<'_, K>) -> Result<(), Failed>
+    ensures same_sink { out.new.sink.ghost_name ≡ out.old.sink.ghost_name }
+    ensures put { Puts K.written K.faults out.old out.new result (flat_map line_text lines.now) }
+{
+    for i in 0..lines.len() {
+        let line = lines.at(i).as_str().as_bytes();
+        put_pieces(out, &[line, b"\n"])?;
+    }
+    Ok(())
+}

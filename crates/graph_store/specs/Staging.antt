@@ -1,5 +1,5 @@
 -- Triples that are staged, with the terms that came with them, and triples that are marked.
-use Rattle.std.specs.Prelude.{◌≡◌, ◌⊎◌, ℕ, ◌+◌, ◌<◌, ◌≤◌, not, true, false, List, [], ◌∷◌, IsSome, Some, refl}
+use Rattle.std.specs.Prelude.{◌≡◌, ◌⊎◌, ℕ, ◌+◌, ◌<◌, ◌≤◌, not, true, false, List, [], ◌∷◌, IsSome, Some, refl, if◌then◌else◌}
 use Rattle.std.specs.Prelude.{map as map_list}
 use Rattle.std.specs.Coded.{Coded, code_by, coded×, coded_ℕ, coded_list}
 use Rattle.std.specs.FinMap as map
@@ -30,6 +30,10 @@ numbers ids = map_list (λ id. id.0) ids
 -- the staged triples as a graph
 abbrev pub staged_graph : State → Staging → Graph
 staged_graph s b = graph_of s.dict b.triples
+
+-- the staged triples with one more, unless the graph has it
+abbrev pub with_new : Graph → Graph → Triple → Graph
+with_new G staged t = if set.contains G t then staged else set.insert staged t
 
 -- no Id stands twice in the list
 abbrev pub AreDistinct : List ℕ → Type 0
@@ -63,6 +67,10 @@ IsFull s b t = (s.max < set.len (graph s)) ⊎ ((set.contains (graph s) t ≡ fa
 -- the graph has each of the marked triples
 abbrev pub AreMarked : State → IdSet → Type 0
 AreMarked s marked = IsChange false (triples_of s) marked
+
+-- the marked triples with one more, if the graph has it
+abbrev pub with_marked : Graph → Graph → Triple → Graph
+with_marked G marked t = if set.contains G t then set.insert marked t else marked
 
 -- the marked triples as a graph
 abbrev pub marked_graph : State → IdSet → Graph

@@ -1,5 +1,5 @@
 //! Triples that are staged, and then put in together or abandoned.
-ghost use Rattle.std.specs.Prelude.{◌≡◌, ◌↔◌, ◌+◌, ◌*◌, ◌<◌, ◌≤◌, ◌||◌, if◌then◌else◌, true, IfOk, OnOk, OnErr, IsErrOf};
+ghost use Rattle.std.specs.Prelude.{◌≡◌, ◌↔◌, ◌+◌, ◌*◌, ◌<◌, ◌≤◌, ◌||◌, true, IfOk, OnOk, OnErr, IsErrOf};
 ghost use Rattle.std.specs.FinSet as set;
 ghost use Rattle.ntriples.specs.Lent.{lent_triple};
 ghost use Rattle.hypertrie_model.specs.Changes.{IsChange};
@@ -7,7 +7,7 @@ ghost use Rattle.trie_context.specs.Roots.{root_set};
 ghost use Rattle.trie_context.specs.RootShape.{OnlyRootHeld};
 ghost use Rattle.graph_store.specs.Proper.{IsProperTriple};
 ghost use Rattle.graph_store.specs.State.{graph, most_triples, IsSettled};
-ghost use Rattle.graph_store.specs.Staging.{nothing_staged, staged_graph, Fits, before, IsFull};
+ghost use Rattle.graph_store.specs.Staging.{nothing_staged, staged_graph, with_new, Fits, before, IsFull};
 ghost use Rattle.graph_store.specs.declared.staged.StageFault.TheVariants as fault;
 
 use crate::lookup::{count, has_triple};
@@ -67,7 +67,7 @@ impl<M: Mix> Store<M> {
         ensures graph { graph self.new ≡ graph self.old }
         ensures before { before self.new staged.new ≡ before self.old staged.old }
         ensures fits { Fits self.new staged.new }
-        ensures staged { OnOk result (staged_graph self.new staged.new ≡ (if set.contains (graph self.old) (lent_triple triple.entry) then staged_graph self.old staged.old else set.insert (staged_graph self.old staged.old) (lent_triple triple.entry))) }
+        ensures staged { OnOk result (staged_graph self.new staged.new ≡ with_new (graph self.old) (staged_graph self.old staged.old) (lent_triple triple.entry)) }
         ensures full { IsErrOf result fault.Full ↔ IsFull self.old staged.old (lent_triple triple.entry) }
         ensures store { OnErr result (self.new ≡ self.old) }
         ensures refused { OnErr result (staged.new ≡ staged.old) }
@@ -120,7 +120,7 @@ impl<M: Mix> Store<M> {
         ensures graph { graph self.new ≡ graph self.old }
         ensures before { before self.new staged.new ≡ before self.old staged.old }
         ensures fits { Fits self.new staged.new }
-        ensures staged { OnOk result (staged_graph self.new staged.new ≡ (if set.contains (graph self.old) (lent_triple triple.entry) then staged_graph self.old staged.old else set.insert (staged_graph self.old staged.old) (lent_triple triple.entry))) }
+        ensures staged { OnOk result (staged_graph self.new staged.new ≡ with_new (graph self.old) (staged_graph self.old staged.old) (lent_triple triple.entry)) }
         ensures store { OnErr result (self.new ≡ self.old) }
         ensures refused { OnErr result (staged.new ≡ staged.old) }
     {

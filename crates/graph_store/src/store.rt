@@ -1,5 +1,5 @@
 //! The store, its size and its end.
-ghost use Rattle.std.specs.Prelude.{◌≡◌, ◌≤◌};
+ghost use Rattle.std.specs.Prelude.{nat_lt, ◌≡◌, ◌≤◌};
 ghost use Rattle.std.specs.FinMap as map;
 ghost use Rattle.std.specs.FinSet as set;
 ghost use Rattle.trie_context.specs.Rows.{no_tables};
@@ -80,6 +80,13 @@ impl<M: Mix> Store<M> {
         // These calls tell the proof that the dictionary is one to one, and that the tables are kept.
         self.dict.len();
         count(self.ctx.tables(), &self.root)
+    }
+
+    /// Whether the graph has more triples than it may have.
+    pub fn is_over(&self) -> bool
+        ensures { result ≡ nat_lt self.now.max (set.len (graph self.now)) }
+    {
+        self.triples() > self.max
     }
 
     /// Gives the tables' one hold up, and ends the store.

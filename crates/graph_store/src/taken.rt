@@ -1,5 +1,5 @@
 //! Triples that are marked, and then deleted together.
-ghost use Rattle.std.specs.Prelude.{◌≡◌, ◌+◌, ◌*◌, ◌≤◌, ℕ, true, false, if◌then◌else◌, IsSome, IfOk, OnOk, OnErr};
+ghost use Rattle.std.specs.Prelude.{◌≡◌, ◌+◌, ◌*◌, ◌≤◌, ℕ, true, false, IsSome, IfOk, OnOk, OnErr};
 ghost use Rattle.std.specs.FinMap as map;
 ghost use Rattle.std.specs.FinSet as set;
 ghost use Rattle.ntriples.specs.Lent.{lent_triple};
@@ -12,7 +12,7 @@ ghost use Rattle.trie_update.specs.Batches.{set_of_entries, IsOnce};
 ghost use Rattle.trie_view.specs.Places.{IsRootThere};
 ghost use Rattle.graph_image.specs.Images.{is_among, IsUsed};
 ghost use Rattle.graph_store.specs.State.{graph, most_triples, IsSettled};
-ghost use Rattle.graph_store.specs.Staging.{marked_graph, AreMarked, numbers, AreDistinct};
+ghost use Rattle.graph_store.specs.Staging.{marked_graph, with_marked, AreMarked, numbers, AreDistinct};
 ghost use Rattle.graph_store.specs.Forgotten.{Forgets};
 
 use crate::ids::ids_in;
@@ -60,7 +60,7 @@ impl Taken {
 impl<M: Mix> Store<M> {
     /// Marks a triple, if the graph has it.
     pub fn mark(&self, taken: &mut Taken, triple: TripleRef<'_>) -> Result<(), Memory>
-        ensures marked { OnOk result (marked_graph self.now taken.new ≡ (if set.contains (graph self.now) (lent_triple triple.entry) then set.insert (marked_graph self.now taken.old) (lent_triple triple.entry) else marked_graph self.now taken.old)) }
+        ensures marked { OnOk result (marked_graph self.now taken.new ≡ with_marked (graph self.now) (marked_graph self.now taken.old) (lent_triple triple.entry)) }
         ensures there { AreMarked self.now taken.old → AreMarked self.now taken.new }
         ensures refused { OnErr result (taken.new ≡ taken.old) }
     {

@@ -8,13 +8,14 @@ ghost use Rattle.tentris_cli.specs.Complaints.{line_of};
 
 mod standard;
 
-use plain_store::PlainStore;
+use graph_store::Store;
 use standard::{Input, Output};
 use std::alloc::{AllocError, Global};
 use std::env::Args;
 use std::process::ExitCode;
 use std::{env, io};
 use tentris_core::{Status, run};
+use trie_depth::SplitMix;
 
 // The command line. Words that are not UTF-8 are bad words.
 fn command_line(rt: &HostRuntime) -> Result<Args, Status> {
@@ -57,10 +58,12 @@ fn carry_out(rt: &HostRuntime, words: &[String]) -> Status
     let Ok(words) = lent(rt.alloc(), words) else {
         return Status::Memory;
     };
-    let mut store = PlainStore::new(rt.alloc());
+    let mut store = Store::<SplitMix>::new(rt.alloc());
     let mut source = Input::new(rt.stdin());
     let mut sink = Output::new(rt.stdout());
-    run(rt.alloc(), &words, &mut store, &mut source, &mut sink)
+    let status = run(rt.alloc(), &words, &mut store, &mut source, &mut sink);
+    store.close();
+    status
 }
 
 // Reads the command line and carries out the script.

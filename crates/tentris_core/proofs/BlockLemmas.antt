@@ -1,97 +1,123 @@
--- What the lines of a block say, line by line.
-use Rattle.std.proofs.Common.{◌≡◌, ◌∙◌, ◌⊎◌, inl, inr, ℕ, ◌+◌, ◌≤◌, Bool, true, false, cond, List, [], ◌∷◌, ◌++◌, length, map, refl, sym, ap, subst, arith, append-nil, length-append}
-use Rattle.std.specs.Prelude.{Option, Some, None, is_none, option_map}
-use Rattle.std.proofs.lemmas.Grind.{flat_map-append}
+-- The commands of lines, one by one, and what is known where a script stands between two lines.
+use Rattle.std.proofs.Common.{◌≡◌, ◌∙◌, ◌≤◌, inl, inr, true, false, cond, List, [], ◌∷◌, ◌++◌, refl, sym, ap, subst, arith}
+use Rattle.std.specs.Prelude.{None, Some}
 use Rattle.std.specs.FinSet as set
-use Rattle.rdf_model.specs.Terms as model
-use Rattle.rdf_model.specs.Graph.{Graph, with_all, without_all, added, gone}
 use Rattle.text_lines.specs.Lines.{Line}
 use Rattle.script_model.specs.Commands as script
 use Rattle.run_model.specs.Answers as answers
-use Rattle.run_model.specs.Blocks.{says, triples_said, triples_of, first_bad}
-use Rattle.run_model.specs.Steps.{Step, Does}
-use Rattle.rdf_term.specs.declared.term.Triple.{Triple}
-use Rattle.rdf_term.specs.Seen.{triple_of}
-use Rattle.tentris_core.specs.declared.answer.Refusal.{Refusal}
-use Rattle.tentris_core.specs.declared.answer.Refusal.TheVariants as cause
-use Rattle.tentris_core.specs.declared.block.Staged.{Staged}
-use Rattle.tentris_core.specs.declared.block.Staged.TheVariants.{Triples, Refused}
-use Rattle.tentris_core.specs.Places.{IsStaged}
-use Rattle.tentris_core.specs.Seen.{refusal_of}
+use Rattle.rdf_model.specs.Graph.{triple_cmp}
+use Rattle.graph_image.specs.ImageLaws.{graph_of-empty}
+use Rattle.graph_store.specs.State.{State, graph, IsSettled, most_triples}
+use Rattle.graph_store.specs.Staging.{nothing_staged, AreMarked}
+use Rattle.graph_store.specs.StagingLaws.{fits_nothing, before_nothing, marked_nothing}
+use Rattle.answer_text.specs.declared.Refusal.{Refusal}
+use Rattle.tentris_core.specs.declared.answer.Answer.{Answer}
+use Rattle.tentris_core.specs.declared.batch.Batch.{Batch}
+use Rattle.tentris_core.specs.declared.batch.Batch.TheVariants.{Inserts, Deletes, Refused}
+use Rattle.tentris_core.specs.declared.block.Block.{Block}
+use Rattle.tentris_core.specs.declared.block.Place.{Place}
+use Rattle.tentris_core.specs.declared.block.Place.TheVariants as place
+use Rattle.tentris_core.specs.Seen.{answer_of}
+use Rattle.tentris_core.specs.Batches.{IsBatch, IsReady, IsCause, AreStaged, AreToGo}
+use Rattle.tentris_core.specs.Carrying.{IsSound, Carries}
+use Rattle.tentris_core.specs.Places.{Position, Outside, Inside, IsBlock, IsAt, TakesLine}
+use Rattle.tentris_core.proofs.GraphLemmas.{lacked-none, had-none}
+use Rattle.tentris_core.proofs.BatchLemmas.{cause_stays}
 
--- the first bad line of some lines is that of more lines
-pub first_bad-front : (k n : ℕ) (body more : List Line) → first_bad k body ≡ Some n → first_bad k (body ++ more) ≡ Some n
-first_bad-front k n [] more e = absurd (let t : ⊥ = cc in t)
-first_bad-front k n (l ∷ body) more e =
-    elim (is_none (says l)) as (λ b. cond b (Some k) (first_bad (k + 1) body) ≡ Some n → cond b (Some k) (first_bad (k + 1) (body ++ more)) ≡ Some n) [
-      | true ↦ λ e. e
-      | false ↦ λ e. first_bad-front (k + 1) n body more e
-    ] e
+-- ---- batches
 
--- behind good lines, the next one decides
-pub first_bad-push : (k : ℕ) (body : List Line) (l : Line) → first_bad k body ≡ None → first_bad k (body ++ l ∷ []) ≡ cond (is_none (says l)) (Some (k + length body)) None
-first_bad-push k [] l e = ap (λ n. cond (is_none (says l)) (Some n) None) (let s : k ≡ k + 0 = omega arith in s)
-first_bad-push k (m ∷ body) l e =
-    elim (is_none (says m)) as (λ b. cond b (Some k) (first_bad (k + 1) body) ≡ None → cond b (Some k) (first_bad (k + 1) (body ++ l ∷ [])) ≡ cond (is_none (says l)) (Some (k + length (m ∷ body))) None) [
-      | true ↦ λ e. absurd (let t : ⊥ = cc in t)
-      | false ↦ λ e. first_bad-push (k + 1) body l e ∙ ap (λ n. cond (is_none (says l)) (Some n) None) (let s : (k + 1) + length body ≡ k + length (m ∷ body) = omega arith in s)
-    ] e
+-- a batch of a sound store can be carried out
+pub ready_batch : (s : State) (change : script.Change) (body : List Line) (held : State) (b : Batch) → IsSound s → IsBatch s change body held b → IsReady held b
+ready_batch s script.Inserts body held (Inserts staged) sound h = h.fits
+ready_batch s script.Deletes body held (Inserts staged) sound h = absurd h
+ready_batch s script.Inserts body held (Deletes taken) sound h = absurd h
+ready_batch s script.Deletes body held (Deletes taken) sound h = (subst IsSettled (sym h.0) sound.settled, subst (λ z. AreMarked z taken) (sym h.0) h.1.there)
+ready_batch s script.Inserts body held (Refused cause) sound h = tt
+ready_batch s script.Deletes body held (Refused cause) sound h = tt
 
-pub triples_of-push : (body : List Line) (l : Line) → triples_of (body ++ l ∷ []) ≡ triples_of body ++ triples_said (says l)
-triples_of-push body l = flat_map-append (λ l. triples_said (says l)) body (l ∷ []) ∙ ap (λ z. triples_of body ++ z) (append-nil (triples_said (says l)))
+-- a refused batch with one more line
+pub refused_more : (s : State) (change : script.Change) (body : List Line) (now : State) (l : Line) (r : Refusal) → IsBatch s change body now (Refused r) → (now ≡ s) × IsCause s change (body ++ l ∷ []) r
+refused_more s script.Inserts body now l r h = (h.0, cause_stays s script.Inserts body l r h.1)
+refused_more s script.Deletes body now l r h = (h.0, cause_stays s script.Deletes body l r h.1)
 
--- a refused block stays refused
-pub refused_stays : (body : List Line) (l : Line) (r : Refusal) → IsStaged body (Refused r) → IsStaged (body ++ l ∷ []) (Refused r)
-refused_stays body l cause.NoCommand h = h
-refused_stays body l (cause.BadLine n) h = first_bad-front 1 n body (l ∷ []) h
-refused_stays body l cause.NoMemory h = h
-refused_stays body l cause.EndInBlock h = h
+-- nothing is staged, and nothing is marked
+pub none_staged : (s : State) → IsSettled s → set.len (graph s) ≤ most_triples → AreStaged s [] s nothing_staged
+none_staged s settled few = record {
+  fits = fits_nothing s settled few;
+  start = before_nothing s;
+  same = refl;
+  triples = graph_of-empty s.dict ∙ sym (lacked-none (graph s));
+  good = refl;
+  within = inl (ap set.len (graph_of-empty s.dict) ∙ set.len-empty triple_cmp);
+}
 
--- one more line that is bad
-pub bad_line : (body : List Line) (l : Line) (number : ℕ) → says l ≡ None → number ≡ length body + 1 → first_bad 1 body ≡ None → first_bad 1 (body ++ l ∷ []) ≡ Some number
-bad_line body l number bad is good = first_bad-push 1 body l good ∙ ap (λ s. cond (is_none s) (Some (1 + length body)) None) bad ∙ ap Some (let s : 1 + length body ≡ number = omega arith in s)
+pub none_marked : (s : State) → AreToGo s [] set.empty
+none_marked s = record { there = marked_nothing s; triples = graph_of-empty s.dict ∙ sym (had-none (graph s)); good = refl }
 
--- one more line that is good
-pub good_line : (body : List Line) (l : Line) (r : Option model.Triple) → says l ≡ Some r → first_bad 1 body ≡ None → first_bad 1 (body ++ l ∷ []) ≡ None
-good_line body l r good before = first_bad-push 1 body l before ∙ ap (λ s. cond (is_none s) (Some (1 + length body)) None) good
+-- ---- places
 
-pub more_triples : (body : List Line) (l : Line) (r : Option model.Triple) (ts us : List Triple) → says l ≡ Some r → map triple_of ts ≡ triples_of body → map triple_of us ≡ map triple_of ts ++ triples_said (Some r) → map triple_of us ≡ triples_of (body ++ l ∷ [])
-more_triples body l r ts us good before e = e ∙ ap (λ z. z ++ triples_said (Some r)) before ∙ ap (λ s. triples_of body ++ triples_said s) (sym good) ∙ sym (triples_of-push body l)
+pub record IsInside (s now : State) (block : Block) : Type 0 where
+  pub change : script.Change
+  pub body : List Line
+  pub is : IsBlock s change body now block
 
-pub out_of_memory : (change : script.Change) (body : List Line) (G : Graph) → Step G (script.Block change body) G (answers.Refused answers.NoMemory)
-out_of_memory change body G = inr (inr (λ e. let t : ⊥ = cc in t, refl, refl))
+pub inside_at : (p : Position) (s now : State) (block : Block) → IsAt p s now (place.Inside block) → IsInside s now block
+inside_at Outside s now block h = absurd h
+inside_at (Inside change body) s now block h = record { change = change; body = body; is = h }
 
--- a block that is refused
-pub refused_block : (change : script.Change) (body : List Line) (r : Refusal) (G : Graph) → IsStaged body (Refused r) → Step G (script.Block change body) G (answers.Refused (refusal_of r))
-refused_block change body cause.NoCommand G h = absurd h
-refused_block change body (cause.BadLine n) G h = inr (inl (answers.BadLine n, ap (option_map answers.BadLine) h, refl, refl))
-refused_block change body cause.NoMemory G h = out_of_memory change body G
-refused_block change body cause.EndInBlock G h = absurd h
+-- ---- lines outside a block
 
--- a block of triples that are added
-pub inserted : (body : List Line) (ts : List model.Triple) (G H : Graph) (changed now : ℕ) → first_bad 1 body ≡ None → ts ≡ triples_of body → H ≡ with_all G ts → changed ≡ added G ts → now ≡ set.len H
-    → Step G (script.Block script.Inserts body) H (answers.New changed now)
-inserted body ts G H changed now good is e f n =
-    inl (ap (option_map answers.BadLine) good, (e ∙ ap (with_all G) is, (λ i. answers.New ((f ∙ ap (added G) is) i) (n i))))
+of_form : (l : Line) → false ≡ script.skipped l → (rest : List Line) → script.outside (l ∷ rest) ≡ script.from_form (script.form_of l) (script.outside rest) (λ change. script.inside change [] rest)
+of_form l told rest = ap (λ b. cond b (script.outside rest) (script.from_form (script.form_of l) (script.outside rest) (λ change. script.inside change [] rest))) (sym told)
 
--- a block of triples that are taken away
-pub deleted : (body : List Line) (ts : List model.Triple) (G H : Graph) (changed now : ℕ) → first_bad 1 body ≡ None → ts ≡ triples_of body → H ≡ without_all G ts → changed ≡ gone G ts → now ≡ set.len H
-    → Step G (script.Block script.Deletes body) H (answers.Gone changed now)
-deleted body ts G H changed now good is e f n =
-    inl (ap (option_map answers.BadLine) good, (e ∙ ap (without_all G) is, (λ i. answers.Gone ((f ∙ ap (gone G) is) i) (n i))))
+-- a line that says nothing
+pub takes_note : (l : Line) (s : State) → true ≡ script.skipped l → TakesLine Outside l s s place.Outside None
+takes_note l s told = record {
+  next = Outside;
+  after = s;
+  is_at = refl;
+  leads = (refl, λ rest. ap (λ b. cond b (script.outside rest) (script.from_form (script.form_of l) (script.outside rest) (λ change. script.inside change [] rest))) (sym told));
+  had = omega arith;
+}
 
--- why a line stopped the block
-pub cause_staged : (body : List Line) (l : Line) (number : ℕ) (r : Refusal) → ((r ≡ cause.BadLine number) × (says l ≡ None)) ⊎ (r ≡ cause.NoMemory) → number ≡ length body + 1 → first_bad 1 body ≡ None → IsStaged (body ++ l ∷ []) (Refused r)
-cause_staged body l number r (inl p) n good = subst (λ r. IsStaged (body ++ l ∷ []) (Refused r)) (sym p.0) (bad_line body l number p.1 n good)
-cause_staged body l number r (inr p) n good = subst (λ r. IsStaged (body ++ l ∷ []) (Refused r)) (sym p) tt
+-- a line that is a whole command
+pub takes_command : (l : Line) (s : State) (c : script.Command) (a : Answer) → false ≡ script.skipped l → Some (script.Whole c) ≡ script.form_of l → script.is_closed c ≡ true → Carries s c s (answer_of a) → TakesLine Outside l s s place.Outside (Some a)
+takes_command l s c a told form closed carries = record {
+  next = Outside;
+  after = s;
+  is_at = refl;
+  leads = (c, closed, (λ rest. of_form l told rest ∙ ap (λ f. script.from_form f (script.outside rest) (λ change. script.inside change [] rest)) (sym form)), carries);
+  had = omega arith;
+}
+
+-- a line that is no command
+pub takes_bad : (l : Line) (s : State) (a : Answer) → answer_of a ≡ answers.Refused answers.NoCommand → false ≡ script.skipped l → None ≡ script.form_of l → IsSound s → TakesLine Outside l s s place.Outside (Some a)
+takes_bad l s a is told form sound = record {
+  next = Outside;
+  after = s;
+  is_at = refl;
+  leads = (
+    script.Bad,
+    refl,
+    (λ rest. of_form l told rest ∙ ap (λ f. script.from_form f (script.outside rest) (λ change. script.inside change [] rest)) (sym form)),
+    subst (Carries s script.Bad s) (sym is) (record { step = inr (inl (answers.NoCommand, refl, refl, refl)); refused = λ _. refl; sound = sound; max = refl }),
+  );
+  had = omega arith;
+}
 
 -- a line that begins a block
-pub begins_block : (l : Line) (change : script.Change) → false ≡ script.skipped l → Some (script.Begins change) ≡ script.form_of l → (rest : List Line) → script.outside (l ∷ rest) ≡ script.inside change [] rest
-begins_block l change told form rest =
-    ap (λ b. cond b (script.outside rest) (script.from_form (script.form_of l) (script.outside rest) (λ change. script.inside change [] rest))) (sym told)
-    ∙ ap (λ f. script.from_form f (script.outside rest) (λ change. script.inside change [] rest)) (sym form)
+pub takes_begin : (l : Line) (s : State) (change : script.Change) (q : Place) → false ≡ script.skipped l → Some (script.Begins change) ≡ script.form_of l → IsAt (Inside change []) s s q → TakesLine Outside l s s q None
+takes_begin l s change q told form at = record {
+  next = Inside change [];
+  after = s;
+  is_at = at;
+  leads = (refl, λ rest. of_form l told rest ∙ ap (λ f. script.from_form f (script.outside rest) (λ change. script.inside change [] rest)) (sym form));
+  had = omega arith;
+}
 
--- a line that ends a block, and one that doesn't
+-- ---- lines of a block
+
+-- a line that ends it, and one that doesn't
 pub ends_it : (l : Line) (change : script.Change) (body : List Line) → true ≡ script.ends_block l → (rest : List Line) → script.inside change body (l ∷ rest) ≡ script.Block change body ∷ script.outside rest
 ends_it l change body told rest = ap (λ b. cond b (script.Block change body ∷ script.outside rest) (script.inside change (body ++ l ∷ []) rest)) (sym told)
 

@@ -1,11 +1,11 @@
 -- What happens where a script ends.
-use Rattle.std.specs.Prelude.{◌≡◌, ℕ, Bool, true, List, [], if◌then◌else◌}
+use Rattle.std.specs.Prelude.{◌≡◌, ℕ, Bool, List, if◌then◌else◌}
 use Rattle.std.specs.declared.option.Option.{Option}
 use Rattle.std.specs.Io.KnownBytes.{append_known}
 use Rattle.run_model.specs.Answers.{answer_text, Refused, EndInBlock}
 use Rattle.tn_io.specs.declared.out.Out.{Out}
 use Rattle.tentris_core.specs.declared.running.Status.{Status}
-use Rattle.tentris_core.specs.declared.running.Status.TheVariants.{Done, SomeRefused, BadWords, ReadFault, WriteFault, Memory, TooLong}
+use Rattle.tentris_core.specs.declared.running.Status.TheVariants.{Done, SomeRefused, WriteFault}
 use Rattle.tentris_core.specs.declared.block.Place.{Place}
 use Rattle.tentris_core.specs.declared.block.Place.TheVariants as place
 use Rattle.tentris_core.specs.Puts.{IsPart}

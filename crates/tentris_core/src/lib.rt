@@ -2,9 +2,10 @@
 #![tactic(auto)]
 
 mod answer;
+mod batch;
 mod block;
+mod counts;
 mod running;
 
-pub use answer::{Answer, Refusal};
-pub use block::{Block, Change, Place, Staged};
+pub use answer::Answer;
 pub use running::{MAX_BYTES, Status, run};

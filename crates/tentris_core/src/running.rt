@@ -7,19 +7,29 @@ ghost use Rattle.tn_io.specs.Causes.{Rose};
 ghost use Rattle.tn_io.specs.CutterState.{line_told};
 ghost use Rattle.run_model.specs.Answers.{answer_text, is_refused};
 ghost use Rattle.tentris_core.specs.Seen.{answer_of};
-ghost use Rattle.tentris_core.specs.Places.{lent_line};
+ghost use Rattle.tentris_core.specs.Batches.{lent_line};
+ghost use Rattle.tentris_core.specs.Places.{Position, IsAt, IsReadyAt};
+ghost use Rattle.tentris_core.specs.Carrying.{IsSound};
+ghost use Rattle.graph_store.specs.State.{State, IsSettled};
+ghost use Rattle.graph_store.specs.Stands.{Stands};
+ghost use Rattle.trie_context.specs.Kept.{AreKept};
 ghost use Rattle.tentris_core.specs.Puts.{PassesOn};
 ghost use Rattle.tentris_core.specs.Runs.{Ends};
 ghost use Rattle.tentris_core.specs.Endings.{Finishes};
 ghost use Rattle.script_read.specs.ScriptState.{at_start};
 
-use crate::answer::{Answer, Refusal};
-use crate::block::{Place, take_line};
-use plain_store::PlainStore;
+use crate::answer::Answer;
+use crate::block::{Block, Place, take_line};
+use crate::counts::Counts;
+use answer_text::Refusal;
+use graph_store::Store;
 use rdf_term::Scratch;
 use script_read::{Script, ScriptFault};
 use std::alloc::Global;
+use std::marker::Brand;
+use std::sync::ledger::{Blank, Ledger};
 use tn_io::{Cut, Failed, Out, Sink, Source};
+use trie_depth::{Mix, Steps};
 
 /// The greatest number of bytes of a script.
 pub const MAX_BYTES: u64 = 1_099_511_627_776;
@@ -90,9 +100,16 @@ fn is_refusal(answer: &Answer) -> bool
 }
 
 // The script has ended: a block without its end is refused.
-fn finish<K: Sink>(place: Place, refused: bool, out: &mut Out<'_, K>) -> Status
-    requires { out.old.buffer ≡ [] }
+fn finish<M: Mix, K: Sink>(
+    place: Place,
+    refused: bool,
+    store: &mut Store<M>,
+    out: &mut Out<'_, K>,
+) -> Status
+    requires ready { IsReadyAt store.old place }
+    requires empty { out.old.buffer ≡ [] }
     ensures same_sink { out.new.sink.ghost_name ≡ out.old.sink.ghost_name }
+    ensures store { (p : Position) (s : State) → IsAt p s store.old place → store.new ≡ s }
     ensures ends { Finishes K.written place refused out.old out.new result }
     ensures later { K.faults out.old.sink.now ≤ K.faults out.new.sink.now }
     ensures fault { result ≡ Status.WriteFault → Rose (K.faults out.old.sink.now) (K.faults out.new.sink.now) }
@@ -105,8 +122,10 @@ fn finish<K: Sink>(place: Place, refused: bool, out: &mut Out<'_, K>) -> Status
                 Status::Done
             }
         }
-        Place::Inside(_) => {
-            let answer = Answer::Refused(Refusal::EndInBlock);
+        Place::Inside(block) => {
+            let Block { lines: _, batch } = block;
+            batch.abandon(store);
+            let answer = Answer::Refused(Refusal::Unended);
             match pass_on(out, &answer) {
                 Ok(()) => Status::SomeRefused,
                 Err(_) => Status::WriteFault,
@@ -116,18 +135,21 @@ fn finish<K: Sink>(place: Place, refused: bool, out: &mut Out<'_, K>) -> Status
 }
 
 // Carries out the script, from its first line on.
-fn carry_out<S: Source, K: Sink>(
+fn carry_out<M: Mix, S: Source, K: Sink, W: Ledger, V: Ledger>(
     alloc: Global,
     script: &mut Script,
     scratch: &mut Scratch,
-    store: &mut PlainStore,
+    store: &mut Store<M>,
     source: &mut S,
     out: &mut Out<'_, K>,
+    counts: &mut Counts<W, V>,
 ) -> Status
     requires start { script.old ≡ at_start MAX_BYTES }
+    requires sound { IsSound store.old }
     requires empty { out.old.buffer ≡ [] }
     ensures same_sink { out.new.sink.ghost_name ≡ out.old.sink.ghost_name }
     ensures ends { Ends result MAX_BYTES store.old store.new (S.left source.old) (S.left source.new) (K.written out.old.sink.now) (K.written out.new.sink.now) }
+    ensures sound { IsSound store.new }
     ensures accepted { result ≢ Status.BadWords }
     ensures later_read { S.faults source.old ≤ S.faults source.new }
     ensures later_write { K.faults out.old.sink.now ≤ K.faults out.new.sink.now }
@@ -139,48 +161,106 @@ fn carry_out<S: Source, K: Sink>(
     'lines: loop {
         let cut = match script.next_line(source) {
             Ok(Some(cut)) => cut,
-            Ok(None) => return finish(place, refused, out),
-            Err(ScriptFault::Read) => return Status::ReadFault,
-            Err(ScriptFault::TooLong) => return Status::TooLong,
+            Ok(None) => return finish(place, refused, store, out),
+            Err(ScriptFault::Read) => {
+                place.abandon(store);
+                return Status::ReadFault;
+            }
+            Err(ScriptFault::TooLong) => {
+                place.abandon(store);
+                return Status::TooLong;
+            }
         };
-        let (next, answer) = take_line(alloc, store, place, told_line(cut, script), scratch);
+        let line = told_line(cut, script);
+        let (next, answer) = take_line(alloc, store, place, line, scratch, counts);
         place = next;
         if let Some(answer) = answer {
             refused = refused || is_refusal(&answer);
             let Ok(()) = pass_on(out, &answer) else {
+                place.abandon(store);
                 return Status::WriteFault;
             };
         }
     }
 }
 
-/// Carries out a script from the source over the store, and writes the answers to the sink.
-///
-/// `words` are those of the command line after the program's name; none is understood. The script has at most
-/// `MAX_BYTES` bytes. Running out of memory before the script is read is `Memory`; later it refuses the one command.
-pub fn run<S: Source, K: Sink>(
+// Carries out the script with buffers and counters of its own.
+fn run_script<M: Mix, S: Source, K: Sink, W: Ledger, V: Ledger>(
     alloc: Global,
-    words: &[&str],
-    store: &mut PlainStore,
+    store: &mut Store<M>,
     source: &mut S,
     sink: &mut K,
+    interns: Blank,
+    retains: Blank,
 ) -> Status
+    requires sound { IsSound store.old }
+    requires name { interns.name ≡ W.name }
+    requires parts { interns.parts ≡ W.parts }
+    requires whole { 0 < W.parts }
+    requires other_name { retains.name ≡ V.name }
+    requires other_parts { retains.parts ≡ V.parts }
+    requires other_whole { 0 < V.parts }
     ensures ends { Ends result MAX_BYTES store.old store.new (S.left source.old) (S.left source.new) (K.written sink.old) (K.written sink.new) }
-    ensures words { (result ≡ Status.BadWords) ↔ (0 < length words.now) }
+    ensures sound { IsSound store.new }
+    ensures accepted { result ≢ Status.BadWords }
     ensures later_read { S.faults source.old ≤ S.faults source.new }
     ensures later_write { K.faults sink.old ≤ K.faults sink.new }
     ensures read_fault { result ≡ Status.ReadFault → Rose (S.faults source.old) (S.faults source.new) }
     ensures write_fault { result ≡ Status.WriteFault → Rose (K.faults sink.old) (K.faults sink.new) }
 {
-    if !words.is_empty() {
-        return Status::BadWords;
-    }
     let Ok(mut script) = Script::new(alloc, MAX_BYTES) else {
         return Status::Memory;
     };
     let Ok(mut scratch) = Scratch::new(alloc) else {
         return Status::Memory;
     };
+    let mut counts = Counts {
+        interns: Steps::<W>::new(interns),
+        retains: Steps::<V>::new(retains),
+    };
     let mut out = Out::new(sink);
-    carry_out(alloc, &mut script, &mut scratch, store, source, &mut out)
+    carry_out(
+        alloc,
+        &mut script,
+        &mut scratch,
+        store,
+        source,
+        &mut out,
+        &mut counts,
+    )
+}
+
+/// Carries out a script from the source over the store, and writes the answers to the sink.
+///
+/// `words` are those of the command line after the program's name; none is understood. The script has at most
+/// `MAX_BYTES` bytes. Running out of memory before the script is read is `Memory`; later it refuses the one command.
+/// The store's dictionary must have exactly the terms of its graph, as a new store's has and as it is left here.
+pub fn run<M: Mix, S: Source, K: Sink>(
+    alloc: Global,
+    words: &[&str],
+    store: &mut Store<M>,
+    source: &mut S,
+    sink: &mut K,
+) -> Status
+    requires settled { IsSettled store.old }
+    ensures ends { Ends result MAX_BYTES store.old store.new (S.left source.old) (S.left source.new) (K.written sink.old) (K.written sink.new) }
+    ensures settled { IsSettled store.new }
+    ensures stands { Stands store.new }
+    ensures kept { AreKept M.mixed store.new.tables }
+    ensures words { (result ≡ Status.BadWords) ↔ (0 < length words.now) }
+    ensures later_read { S.faults source.old ≤ S.faults source.new }
+    ensures later_write { K.faults sink.old ≤ K.faults sink.new }
+    ensures read_fault { result ≡ Status.ReadFault → Rose (S.faults source.old) (S.faults source.new) }
+    ensures write_fault { result ≡ Status.WriteFault → Rose (K.faults sink.old) (K.faults sink.new) }
+{
+    // This call tells the proof that the tables are the shape of the graph.
+    store.triples();
+    if !words.is_empty() {
+        return Status::BadWords;
+    }
+    let interns = Blank::new(1);
+    let retains = Blank::new(1);
+    let status = run_script::<M, S, K, Brand, Brand>(alloc, store, source, sink, interns, retains);
+    store.triples();
+    status
 }

@@ -1,9 +1,10 @@
 //! Scripts, the answers that they want, and how they end.
 use crate::harness::run_in_pieces;
-use plain_store::PlainStore;
+use graph_store::Store;
 use std::test::Fail;
 use tentris_core::{Status, run};
 use tn_io::{MemSink, MemSource};
+use trie_depth::SplitMix;
 
 const TWO: &str = "INSERT\n<x:a> <x:p> <x:b> .\n<x:a> <x:p> <x:c> .\nGO\n";
 
@@ -21,8 +22,8 @@ fn scripts_have_their_answers(rt: HostRuntime) -> Result<(), Fail> {
         ),
         (
             "no command form",
-            "STATS\ninsert\nGO\nLOAD\n INSERT x\n",
-            "refused 1 command\nrefused 1 command\nrefused 1 command\nrefused 1 command\nrefused 1 command\n",
+            "insert\nGO\nLOAD\n INSERT x\n",
+            "refused 1 command\nrefused 1 command\nrefused 1 command\nrefused 1 command\n",
             Status::SomeRefused,
             0,
         ),
@@ -166,13 +167,15 @@ fn long_lines(rt: HostRuntime) -> Result<(), Fail> {
 #[test]
 fn no_word_is_understood(rt: HostRuntime) -> Result<(), Fail> {
     let alloc = rt.alloc();
-    let mut store = PlainStore::new(alloc);
     let mut source = MemSource::new(TWO.as_bytes().to_vec(alloc)?, 64, Vec::new(alloc));
     let mut sink = MemSink::new(alloc, 64, Vec::new(alloc));
+    let mut store = Store::<SplitMix>::new(alloc);
     let status = run(alloc, &["--sort"], &mut store, &mut source, &mut sink);
+    let triples = store.triples();
+    store.close();
     assert_eq!(rt; status, Status::BadWords);
     assert_eq!(rt; status.code(), 2);
     assert_eq!(rt; sink.bytes().len(), 0);
-    assert_eq!(rt; store.len(), 0);
+    assert_eq!(rt; triples, 0);
     Ok(())
 }

@@ -7,3 +7,5 @@ mod cases;
 mod faults;
 #[cfg(test)]
 mod harness;
+#[cfg(test)]
+mod shapes;

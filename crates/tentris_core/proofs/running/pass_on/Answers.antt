@@ -1,4 +1,3 @@
-use Rattle.std.proofs.Common.{rules}
 use Rattle.std.proofs.lemmas.Result.{err_from_is_err_and}
 use Rattle.tentris_core.proofs.RunLemmas.{pass_cut, pass_whole}
 use Rattle.tentris_core.proofs.running.pass_on.Goals as goal

@@ -1,7 +1,0 @@
-use Rattle.std.proofs.Common.{◌≡◌, map}
-use Rattle.rdf_term.specs.Seen.{triple_of}
-use Rattle.rdf_model.specs.Graph.{without_all}
-use Rattle.plain_store.proofs.PlainStore.take_out.Given as goal
-
-abbrev pub invariant-loop-triple : goal.invariant-loop-triple
-invariant-loop-triple l = l.self ≡ without_all l.fn.self (map triple_of l.yielded)

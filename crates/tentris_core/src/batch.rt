@@ -1,0 +1,222 @@
+//! What the lines of a block say: triples that are staged or marked in the store, until the block ends.
+ghost use Rattle.std.specs.Prelude.{◌≡◌, ◌≤◌, ◌+◌, ◌∷◌, [], ◌++◌, List, length, Some, IfSome, MatchOption};
+ghost use Rattle.text_lines.specs.Lines.{Line};
+ghost use Rattle.script_model.specs.Commands as script;
+ghost use Rattle.graph_store.specs.State.{State};
+ghost use Rattle.graph_store.specs.Staging.{Fits, before};
+ghost use Rattle.tentris_core.specs.Carrying.{IsSound, Carries};
+ghost use Rattle.tentris_core.specs.Seen.{answer_of};
+ghost use Rattle.tentris_core.specs.Batches.{lent_line, IsBatch, IsCause, IsReady, AreStaged, AreToGo};
+ghost use Rattle.tentris_core.specs.declared.batch.Batch.TheVariants.{Inserts, Deletes};
+
+use crate::answer::Answer;
+use crate::counts::Counts;
+use answer_text::Refusal;
+use graph_store::{StageFault, Staged, Store, Taken};
+use ntriples::read_line;
+use rdf_term::Scratch;
+use std::alloc::Global;
+use std::sync::ledger::Ledger;
+use trie_depth::Mix;
+
+/// What the lines of a block say so far. It must be spent, by `carry_out` or `abandon`.
+pub enum Batch {
+    /// Triples that are staged.
+    Inserts(Staged),
+    /// Triples that are marked.
+    Deletes(Taken),
+    /// A line can't be carried out, and so the block can't be.
+    Refused(Refusal),
+}
+
+// Stages what a line says, or says why it can't be put in.
+fn stage<M: Mix>(
+    store: &mut Store<M>,
+    staged: &mut Staged,
+    line: &[u8],
+    number: u64,
+    scratch: &mut Scratch,
+) -> Option<Refusal>
+    requires short { length line.now ≤ 1048576 }
+    requires fits { Fits store.old staged.old }
+    ensures fits { Fits store.new staged.new }
+    ensures before { before store.new staged.new ≡ before store.old staged.old }
+    ensures line { (s : State) (body : List Line) → number ≡ length body + 1 → AreStaged s body store.old staged.old
+        → MatchOption result (AreStaged s (body ++ Some line.now ∷ []) store.new staged.new) (IsCause s script.Inserts (body ++ Some line.now ∷ [])) }
+{
+    match read_line(line, "", scratch) {
+        Ok(None) => {
+            if store.is_over() {
+                Some(Refusal::Full(number))
+            } else {
+                None
+            }
+        }
+        Ok(Some(triple)) => match store.stage(staged, triple) {
+            Ok(()) => None,
+            Err(StageFault::Full) => Some(Refusal::Full(number)),
+            Err(StageFault::Memory) => Some(Refusal::Memory),
+        },
+        Err(_) => Some(Refusal::Line(number)),
+    }
+}
+
+// Marks what a line says, or says why it can't be taken out.
+fn mark<M: Mix>(
+    store: &Store<M>,
+    taken: &mut Taken,
+    line: &[u8],
+    number: u64,
+    scratch: &mut Scratch,
+) -> Option<Refusal>
+    requires short { length line.now ≤ 1048576 }
+    ensures line { (body : List Line) → number ≡ length body + 1 → AreToGo store.now body taken.old
+        → MatchOption result (AreToGo store.now (body ++ Some line.now ∷ []) taken.new) (IsCause store.now script.Deletes (body ++ Some line.now ∷ [])) }
+{
+    match read_line(line, "", scratch) {
+        Ok(None) => None,
+        Ok(Some(triple)) => match store.mark(taken, triple) {
+            Ok(()) => None,
+            Err(_) => Some(Refusal::Memory),
+        },
+        Err(_) => Some(Refusal::Line(number)),
+    }
+}
+
+// The staged triples with those of one more line, of this number.
+fn insert_line<M: Mix>(
+    store: &mut Store<M>,
+    mut staged: Staged,
+    line: Option<&[u8]>,
+    number: u64,
+    scratch: &mut Scratch,
+) -> Batch
+    requires short { IfSome line (λ l. length l.now ≤ 1048576) }
+    requires fits { Fits store.old staged }
+    ensures { (s : State) (body : List Line) → number ≡ length body + 1 → AreStaged s body store.old staged
+        → IsBatch s script.Inserts (body ++ lent_line line.entry ∷ []) store.new result }
+{
+    let Some(line) = line else {
+        store.abandon(staged);
+        return Batch::Refused(Refusal::Line(number));
+    };
+    match stage(store, &mut staged, line, number, scratch) {
+        None => Batch::Inserts(staged),
+        Some(cause) => {
+            store.abandon(staged);
+            Batch::Refused(cause)
+        }
+    }
+}
+
+// The marked triples with those of one more line, of this number.
+fn delete_line<M: Mix>(
+    store: &Store<M>,
+    mut taken: Taken,
+    line: Option<&[u8]>,
+    number: u64,
+    scratch: &mut Scratch,
+) -> Batch
+    requires short { IfSome line (λ l. length l.now ≤ 1048576) }
+    ensures { (body : List Line) → number ≡ length body + 1 → AreToGo store.now body taken
+        → IsBatch store.now script.Deletes (body ++ lent_line line.entry ∷ []) store.now result }
+{
+    let Some(line) = line else {
+        return Batch::Refused(Refusal::Line(number));
+    };
+    match mark(store, &mut taken, line, number, scratch) {
+        None => Batch::Deletes(taken),
+        Some(cause) => Batch::Refused(cause),
+    }
+}
+
+impl Batch {
+    /// With one more line, of this number.
+    pub(crate) fn with_line<M: Mix>(
+        self,
+        store: &mut Store<M>,
+        line: Option<&[u8]>,
+        number: u64,
+        scratch: &mut Scratch,
+    ) -> Batch
+        requires short { IfSome line (λ l. length l.now ≤ 1048576) }
+        requires ready { IsReady store.old self }
+        ensures { (s : State) (change : script.Change) (body : List Line) → number ≡ length body + 1 → IsBatch s change body store.old self
+            → IsBatch s change (body ++ lent_line line.entry ∷ []) store.new result }
+    {
+        match self {
+            Batch::Inserts(staged) => insert_line(store, staged, line, number, scratch),
+            Batch::Deletes(taken) => delete_line(store, taken, line, number, scratch),
+            Batch::Refused(cause) => Batch::Refused(cause),
+        }
+    }
+
+    /// Puts in what is staged, or takes out what is marked.
+    pub(crate) fn carry_out<M: Mix, W: Ledger, V: Ledger>(
+        self,
+        alloc: Global,
+        store: &mut Store<M>,
+        counts: &mut Counts<W, V>,
+    ) -> Answer
+        requires ready { IsReady store.old self }
+        ensures { (s : State) (change : script.Change) (body : List Line) → IsSound s → IsBatch s change body store.old self
+            → Carries s (script.Block change body) store.new (answer_of result) }
+    {
+        match self {
+            Batch::Inserts(staged) => put_in(alloc, store, staged, counts),
+            Batch::Deletes(taken) => take_out(alloc, store, taken, counts),
+            Batch::Refused(cause) => Answer::Refused(cause),
+        }
+    }
+
+    /// Leaves the store as it was before the block.
+    pub(crate) fn abandon<M: Mix>(self, store: &mut Store<M>)
+        requires ready { IsReady store.old self }
+        ensures { (s : State) (change : script.Change) (body : List Line) → IsBatch s change body store.old self → store.new ≡ s }
+    {
+        match self {
+            Batch::Inserts(staged) => store.abandon(staged),
+            Batch::Deletes(_) | Batch::Refused(_) => {}
+        }
+    }
+}
+
+// Puts the staged triples in.
+fn put_in<M: Mix, W: Ledger, V: Ledger>(
+    alloc: Global,
+    store: &mut Store<M>,
+    staged: Staged,
+    counts: &mut Counts<W, V>,
+) -> Answer
+    requires fits { Fits store.old staged }
+    ensures { (s : State) (body : List Line) → IsSound s → AreStaged s body store.old staged
+        → Carries s (script.Block script.Inserts body) store.new (answer_of result) }
+{
+    let inserted = store.insert(alloc, staged, &mut counts.interns, &mut counts.retains);
+    // This call tells the proof that the tables are the shape of the graph.
+    store.triples();
+    match inserted {
+        Ok(change) => Answer::New(change),
+        Err(_) => Answer::Refused(Refusal::Memory),
+    }
+}
+
+// Takes the marked triples out.
+fn take_out<M: Mix, W: Ledger, V: Ledger>(
+    alloc: Global,
+    store: &mut Store<M>,
+    taken: Taken,
+    counts: &mut Counts<W, V>,
+) -> Answer
+    requires ready { IsReady store.old (Deletes taken) }
+    ensures { (body : List Line) → IsSound store.old → AreToGo store.old body taken
+        → Carries store.old (script.Block script.Deletes body) store.new (answer_of result) }
+{
+    let deleted = store.delete(alloc, taken, &mut counts.interns, &mut counts.retains);
+    // This call tells the proof that the tables are the shape of the graph.
+    store.triples();
+    match deleted {
+        Ok(change) => Answer::Gone(change),
+        Err(_) => Answer::Refused(Refusal::Memory),
+    }
+}

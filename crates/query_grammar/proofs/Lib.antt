@@ -1,0 +1,4 @@
+pub mod Complete
+pub mod Outlines
+pub mod SmallInputs
+pub mod Sound

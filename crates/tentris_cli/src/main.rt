@@ -1,10 +1,11 @@
 //! `tentris`: reads a script from standard input and writes its answers to standard output.
 #![tactic(auto)]
 
-ghost use Rattle.std.specs.Prelude.{◌≡◌, ◌<◌, ◌⊎◌, IfOk, drop, length, map, option_map};
+ghost use Rattle.std.specs.Prelude.{◌≡◌, ◌<◌, ◌⊎◌, Ok, Err, IfErr, IfOk, drop, length, map, option_map};
 ghost use Rattle.std.specs.String.{string_bytes};
 ghost use Rattle.std.specs.Vec.Iter.{into_iter_items};
 ghost use Rattle.tentris_cli.specs.Complaints.{line_of};
+ghost use Rattle.tentris_cli.specs.Words.{status_of};
 
 mod standard;
 
@@ -17,12 +18,17 @@ use std::{env, io};
 use tentris_core::{Status, run};
 use trie_depth::SplitMix;
 
-// The command line. Words that are not UTF-8 are bad words.
-fn command_line(rt: &HostRuntime) -> Result<Args, Status> {
-    match env::args(rt) {
+// The command line as the system tells it. Words that are not UTF-8 are bad words.
+fn command_line(told: io::Result<Args>) -> Result<Args, Status>
+    ensures ok { IfOk told (λ args. result ≡ Ok args) }
+    ensures err { IfErr told (λ error. result ≡ Err (status_of error)) }
+{
+    match told {
         Ok(args) => Ok(args),
-        Err(error) if error.kind() == io::ErrorKind::InvalidData => Err(Status::BadWords),
-        Err(_) => Err(Status::Memory),
+        Err(error) => match error.kind() {
+            io::ErrorKind::InvalidData => Err(Status::BadWords),
+            _ => Err(Status::Memory),
+        },
     }
 }
 
@@ -66,9 +72,13 @@ fn carry_out(rt: &HostRuntime, words: &[String]) -> Status
     status
 }
 
-// Reads the command line and carries out the script.
-fn start(rt: &HostRuntime) -> Status {
-    let args = match command_line(rt) {
+// Carries out the script on standard input, where the command line could be read.
+fn start(rt: &HostRuntime, line: Result<Args, Status>) -> Status
+    ensures unread { IfErr line (λ status. result ≡ status) }
+    ensures words { IfOk line (λ args. result ≡ Status.BadWords → 0 < length (drop 1 (into_iter_items args))) }
+    ensures none { IfOk line (λ args. 0 < length (drop 1 (into_iter_items args)) → (result ≡ Status.BadWords) ⊎ (result ≡ Status.Memory)) }
+{
+    let args = match line {
         Ok(args) => args,
         Err(status) => return status,
     };
@@ -93,7 +103,7 @@ fn complaint(status: Status) -> Option<&'static str>
 }
 
 fn main(rt: HostRuntime) -> ExitCode {
-    let status = start(&rt);
+    let status = start(&rt, command_line(env::args(&rt)));
     if let Some(line) = complaint(status) {
         let _ = eprintln!(rt; "{line}");
     }

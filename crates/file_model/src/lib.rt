@@ -1,0 +1,3 @@
+//! Files by their names, and what a read of a file at a place gives: the words of sources that are
+//! files. There is no code here.
+#![tactic(auto)]

@@ -26,30 +26,38 @@ abbrev pub skipped : Line → Bool
 skipped None = false
 skipped (Some l) = is_note (trimmed l)
 
--- what a block of lines does
+-- whether triples are put in or taken out
 pub data Change : Type 0 where
   Inserts : Change
   Deletes : Change
 
+-- what the lines of a block are: triples
+pub data Kind : Type 0 where
+  Triples : (change : Change) → Kind
+
+-- a command that is one line
+pub data OneLine : Type 0 where
+  Dump : OneLine
+  Stats : OneLine
+  Shape : OneLine
+
 -- Bad: a line outside a block that is no command form. Unended: a block that the script ends in.
 pub data Command : Type 0 where
-  Block : (change : Change) (lines : List Line) → Command
-  Dump : Command
-  Stats : Command
-  Shape : Command
+  Block : (kind : Kind) (lines : List Line) → Command
+  Single : (command : OneLine) → Command
   Bad : Command
   Unended : Command
 
 -- what a line outside a block is: the beginning of a block, or a whole command
 pub data Form : Type 0 where
-  Begins : (change : Change) → Form
-  Whole : (command : Command) → Form
+  Begins : (kind : Kind) → Form
+  Whole : (command : OneLine) → Form
 
 -- the form of a line without the blanks at its ends, or none
 abbrev pub form_of_text : List ℕ → Option Form
 form_of_text t =
-    if bytes_eq t (codes "INSERT") then Some (Begins Inserts) else
-    if bytes_eq t (codes "DELETE") then Some (Begins Deletes) else
+    if bytes_eq t (codes "INSERT") then Some (Begins (Triples Inserts)) else
+    if bytes_eq t (codes "DELETE") then Some (Begins (Triples Deletes)) else
     if bytes_eq t (codes "DUMP") then Some (Whole Dump) else
     if bytes_eq t (codes "STATS") then Some (Whole Stats) else
     if bytes_eq t (codes "SHAPE") then Some (Whole Shape) else None
@@ -65,29 +73,27 @@ ends_block (Some l) = bytes_eq l (codes "GO")
 
 -- The commands from a line of this form on: `rest` are those of the lines after it outside a block,
 -- and `inside` those where it begins a block.
-abbrev pub from_form : Option Form → List Command → (Change → List Command) → List Command
+abbrev pub from_form : Option Form → List Command → (Kind → List Command) → List Command
 from_form None rest inside = Bad ∷ rest
-from_form (Some (Begins change)) rest inside = inside change
-from_form (Some (Whole command)) rest inside = command ∷ rest
+from_form (Some (Begins kind)) rest inside = inside kind
+from_form (Some (Whole command)) rest inside = Single command ∷ rest
 
 -- outside: the commands of lines outside a block; inside: those where a block has had the lines of body
 abbrev mutual
   pub outside : List Line → List Command
   outside [] = []
-  outside (l ∷ ls) = if skipped l then outside ls else from_form (form_of l) (outside ls) (λ change. inside change [] ls)
+  outside (l ∷ ls) = if skipped l then outside ls else from_form (form_of l) (outside ls) (λ kind. inside kind [] ls)
 
-  pub inside : Change → List Line → List Line → List Command
-  inside change body [] = Unended ∷ []
-  inside change body (l ∷ ls) = if ends_block l then Block change body ∷ outside ls else inside change (body ++ l ∷ []) ls
+  pub inside : Kind → List Line → List Line → List Command
+  inside kind body [] = Unended ∷ []
+  inside kind body (l ∷ ls) = if ends_block l then Block kind body ∷ outside ls else inside kind (body ++ l ∷ []) ls
 
 abbrev pub commands_of : List Line → List Command
 commands_of = outside
 
 abbrev pub is_closed : Command → Bool
-is_closed (Block change lines) = true
-is_closed Dump = true
-is_closed Stats = true
-is_closed Shape = true
+is_closed (Block kind lines) = true
+is_closed (Single command) = true
 is_closed Bad = true
 is_closed Unended = false
 

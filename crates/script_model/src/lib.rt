@@ -1,9 +1,10 @@
 //! Definitions alone: the commands of the lines of a script.
 #![tactic(auto)]
 
-ghost use Rattle.script_model.specs.Laws.{CommandsAreScripts};
+ghost use Rattle.script_model.specs.Laws.{CommandsAreScripts, FormsAreProductions};
 
-/// The commands of any lines are a script by the productions.
-pub fn commands_are_scripts()
-    ensures { CommandsAreScripts }
+/// The forms of lines and the commands of a script are those of the productions.
+pub fn laws_of_scripts()
+    ensures forms { FormsAreProductions }
+    ensures scripts { CommandsAreScripts }
 {}

@@ -6,6 +6,10 @@ ghost use Rattle.script_model.specs.Commands.{after_blanks, form_of, trimmed};
 ghost use Rattle.script_read.specs.Forms.{form_meant, without_blanks_behind};
 
 use crate::form::Command;
+use bstr::ByteSlice;
+
+// The bytes that don't count at the ends of a line.
+const BLANKS: &[u8] = b" \t";
 
 const INSERT: &[u8] = b"INSERT";
 
@@ -17,35 +21,26 @@ const STATS: &[u8] = b"STATS";
 
 const SHAPE: &[u8] = b"SHAPE";
 
-fn is_blank(b: u8) -> bool
-    ensures { result ≡ spec.is_blank b }
-{
-    b == b' ' || b == b'\t'
-}
-
-// The number of blanks that begin the line.
+// Where the blanks that begin the line end.
 fn blanks_before(line: &[u8]) -> usize
     ensures within { result ≤ length line.now }
     ensures rest { after_blanks line.now ≡ drop result line.now }
 {
-    for (i, b) in line.iter().enumerate() {
-        if !is_blank(*b) {
-            return i;
-        }
+    match line.find_not_byteset(BLANKS) {
+        Some(place) => place,
+        None => line.len(),
     }
-    line.len()
 }
 
-// The length of the line without the blanks that end it.
+// Where the blanks that end the line begin.
 fn end_before_blanks(line: &[u8]) -> usize
     ensures within { result ≤ length line.now }
     ensures rest { without_blanks_behind line.now ≡ take result line.now }
 {
-    let mut end = line.len();
-    while end > 0 && is_blank(line[end - 1]) {
-        end -= 1;
+    match line.rfind_not_byteset(BLANKS) {
+        Some(place) => place + 1,
+        None => 0,
     }
-    end
 }
 
 // The line without the blanks at both ends.

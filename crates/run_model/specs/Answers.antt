@@ -74,7 +74,3 @@ is_refused (Dumped lines) = false
 is_refused (Counted figures) = false
 is_refused (Shaped lines) = false
 is_refused (Refused cause) = true
-
--- the text of answers, one after another
-abbrev pub text_of : List Answer → Text
-text_of = flat_map answer_text

@@ -1,3 +1,4 @@
 pub mod Answers
-pub mod Blocks
+pub mod Sayings
+pub mod Worlds
 pub mod Steps

@@ -1,37 +1,76 @@
--- What one command may do and answer (docs/SCRIPT.md).
-use Rattle.std.specs.Prelude.{◌≡◌, ◌≢◌, ◌⊎◌, ℕ, List, [], Option, Some, None}
+-- What one command may do and answer, and a run of commands (docs/SCRIPT.md).
+use Rattle.std.specs.Prelude.{◌≡◌, ◌≢◌, ◌⊎◌, ℕ, Bool, List, [], ◌∷◌, Option, Some, None, map}
+use Rattle.std.specs.List.{flat_map, list_any}
 use Rattle.std.specs.FinSet as set
 use Rattle.rdf_model.specs.Terms.{Text}
 use Rattle.rdf_model.specs.Dumps.{AreDumpLines}
 use Rattle.rdf_model.specs.Graph.{Graph, with_all, without_all, added, gone}
 use Rattle.graph_shape.specs.GraphShapes.{figures_of, shape_lines}
-use Rattle.script_model.specs.Commands.{Change, Inserts, Deletes, Command, Block, Dump, Stats, Shape, Bad, Unended}
-use Rattle.run_model.specs.Answers.{Refusal, NoCommand, NoMemory, EndInBlock, New, Gone, Answer, Done, Dumped, Counted, Shaped, Refused}
-use Rattle.run_model.specs.Blocks.{triples_of, first_refusal}
+use Rattle.script_model.specs.Commands.{Change, Inserts, Deletes, Triples, OneLine, Dump, Stats, Shape, Command, Block, Single, Bad, Unended}
+use Rattle.run_model.specs.Answers.{Refusal, NoCommand, NoMemory, EndInBlock, New, Gone, Answer, Done, Dumped, Counted, Shaped, Refused, answer_text, is_refused}
+use Rattle.run_model.specs.Sayings.{Saying, sayings, triples_of, first_refusal}
+use Rattle.run_model.specs.Worlds.{Config, World, FailedRead}
 
--- the refusal of a command over a graph that may have so many triples, or none; want of memory aside
-abbrev pub refusal_of : ℕ → Graph → Command → Option Refusal
-refusal_of most G (Block change lines) = first_refusal change most G [] 1 lines
-refusal_of most G Dump = None
-refusal_of most G Stats = None
-refusal_of most G Shape = None
-refusal_of most G Bad = Some NoCommand
-refusal_of most G Unended = Some EndInBlock
+-- the refusal of a command, or none; want of memory and failed reads aside
+abbrev pub refusal_of : Config → World → Command → Option Refusal
+refusal_of cfg W (Block (Triples change) lines) = first_refusal change cfg.most_triples W.graph (sayings [] lines)
+refusal_of cfg W (Single command) = None
+refusal_of cfg W Bad = Some NoCommand
+refusal_of cfg W Unended = Some EndInBlock
 
--- what a command that isn't refused does to a graph G, and what it answers
-abbrev pub Does : Graph → Command → Graph → Answer → Type 0
-Does G (Block Inserts lines) H a = let B = triples_of lines in (H ≡ with_all G B) × (a ≡ Done (New (added G B) (set.len H)))
-Does G (Block Deletes lines) H a = let B = triples_of lines in (H ≡ without_all G B) × (a ≡ Done (Gone (gone G B) (set.len H)))
-Does G Dump H a = (H ≡ G) × (lines : List Text) × AreDumpLines G lines × (a ≡ Dumped lines)
-Does G Stats H a = (H ≡ G) × (a ≡ Counted (figures_of G))
-Does G Shape H a = (H ≡ G) × (a ≡ Shaped (shape_lines G))
-Does G Bad H a = ⊥
-Does G Unended H a = ⊥
+-- what lines that can be carried out change in a graph G, and the answer
+abbrev pub Changes : Change → Graph → List Saying → Graph → Answer → Type 0
+Changes Inserts G said H a = let B = triples_of said in (H ≡ with_all G B) × (a ≡ Done (New (added G B) (set.len H)))
+Changes Deletes G said H a = let B = triples_of said in (H ≡ without_all G B) × (a ≡ Done (Gone (gone G B) (set.len H)))
 
--- One command: from G, which may have so many triples, to H, with an answer. A refused command changes nothing.
--- Want of memory may refuse each command but a block without end.
-abbrev pub Step : ℕ → Graph → Command → Graph → Answer → Type 0
-Step most G c H a =
-    ((refusal_of most G c ≡ None) × Does G c H a)
-    ⊎ (((r : Refusal) × (refusal_of most G c ≡ Some r) × (H ≡ G) × (a ≡ Refused r))
-    ⊎ ((c ≢ Unended) × (H ≡ G) × (a ≡ Refused NoMemory)))
+-- what a line that commands something answers over a graph
+abbrev pub Answers : Graph → OneLine → Answer → Type 0
+Answers G Dump a = (lines : List Text) × AreDumpLines G lines × (a ≡ Dumped lines)
+Answers G Stats a = a ≡ Counted (figures_of G)
+Answers G Shape a = a ≡ Shaped (shape_lines G)
+
+-- what a command that isn't refused does to a graph, and what it answers
+abbrev pub Does : Config → World → Command → Graph → Answer → Type 0
+Does cfg W (Block (Triples change) lines) H a = Changes change W.graph (sayings [] lines) H a
+Does cfg W (Single command) H a = (H ≡ W.graph) × Answers W.graph command a
+Does cfg W Bad H a = ⊥
+Does cfg W Unended H a = ⊥
+
+-- One command, from the world W to V, with an answer, and with the read that failed, if one did. A refused command changes nothing, and
+-- no command changes a file. Want of memory may refuse each command but a block without end.
+pub data Step (cfg : Config) (W : World) : Command → World → Answer → Option FailedRead → Type 0 where
+  done : (c : Command) (H : Graph) (a : Answer) → refusal_of cfg W c ≡ None → Does cfg W c H a → Step cfg W c (record W { graph = H }) a None
+  refused : (c : Command) (r : Refusal) → refusal_of cfg W c ≡ Some r → Step cfg W c W (Refused r) None
+  no_memory : (c : Command) → c ≢ Unended → Step cfg W c W (Refused NoMemory) None
+
+-- one command of a run: what it answered, which read of it failed, and the world that it left
+pub record Event : Type 0 where
+  pub command : Command
+  pub answer : Answer
+  pub failed : Option FailedRead
+  pub world : World
+
+-- the events of a run from W to V: one command after another, each from the world that the one before it left
+abbrev pub Run : Config → World → List Event → World → Type 0
+Run cfg W [] V = V ≡ W
+Run cfg W (e ∷ es) V = Step cfg W e.command e.world e.answer e.failed × Run cfg e.world es V
+
+-- What is read off a run
+
+abbrev pub commands_in : List Event → List Command
+commands_in = map (λ e. e.command)
+
+-- the texts of the answers, one after another
+abbrev pub text_of : List Event → Text
+text_of = flat_map (λ e. answer_text e.answer)
+
+abbrev pub some_refused : List Event → Bool
+some_refused = list_any (λ e. is_refused e.answer)
+
+abbrev pub or_none : Option FailedRead → List FailedRead
+or_none None = []
+or_none (Some read) = read ∷ []
+
+-- the reads that failed, in order
+abbrev pub failed_reads : List Event → List FailedRead
+failed_reads = flat_map (λ e. or_none e.failed)

@@ -1,49 +1,49 @@
--- The lines of a block, staged or marked one by one, and what the block then does to the store.
+-- Lines, staged or marked one by one, and what they then do to the store.
 use Rattle.std.proofs.Common.{◌≡◌, ◌∙◌, ◌⊎◌, inl, inr, ℕ, ◌+◌, ◌≤◌, true, false, nat_lt, List, [], ◌∷◌, ◌++◌, length, refl, sym, ap, subst, arith, append-nil}
 use Rattle.std.specs.Prelude.{Option, Some, None, if◌then◌else◌}
 use Rattle.std.specs.FinSet as set
 use Rattle.hypertrie_model.specs.IdSets.{IdSet}
 use Rattle.rdf_model.specs.Terms as model
 use Rattle.rdf_model.specs.Graph.{Graph}
-use Rattle.text_lines.specs.Lines.{Line}
 use Rattle.script_model.specs.Commands as script
 use Rattle.run_model.specs.Answers as answers
-use Rattle.run_model.specs.Blocks.{says, triples_said, triples_of, is_over, refusal_at}
+use Rattle.run_model.specs.Sayings.{Saying, triples_said, triples_of, is_over, refusal_at}
+use Rattle.run_model.proofs.RefusalLaws.{triples_of-push}
 use Rattle.graph_store.specs.State.{State, graph}
 use Rattle.graph_store.specs.Staging.{Staging, staged_graph, Fits, before, IsFull, AreMarked, marked_graph}
 use Rattle.answer_text.specs.declared.Refusal.{Refusal}
 use Rattle.answer_text.specs.declared.Refusal.TheVariants as cause
 use Rattle.answer_text.specs.Seen.{refusal_of}
-use Rattle.tentris_core.specs.Batches.{block_refusal, IsCause, AreStaged, AreToGo}
-use Rattle.tentris_core.specs.Carrying.{IsSound, Carries}
+use Rattle.tentris_core.specs.Batches.{batch_refusal, IsCause, AreStaged, AreToGo, ChangesBy, done, refused, no_memory, ChangesStore}
+use Rattle.tentris_core.specs.Carrying.{IsSound}
 use Rattle.tentris_core.proofs.GraphLemmas.{lacked, had, lacked-push, had-push, union-lacked, difference-had}
-use Rattle.tentris_core.proofs.RefusalLemmas.{refusal-front, refusal-push, triples_of-push}
+use Rattle.tentris_core.proofs.RefusalLemmas.{refusal-front, refusal-push}
 use Rattle.tentris_core.proofs.FullLemmas.{HasRoomFor, IsFullFor, over_alone, not_over_alone, full_over, not_full_over}
 
 -- ---- why a line can't be carried out
 
-module _ (s : State) (change : script.Change) (body : List Line) (l : Line) (good : block_refusal s change body ≡ None) where
-  decided : block_refusal s change (body ++ l ∷ []) ≡ refusal_at change s.max (graph s) (triples_of body) (1 + length body) (says l)
+module _ (s : State) (change : script.Change) (body : List Saying) (l : Saying) (good : batch_refusal s change body ≡ None) where
+  decided : batch_refusal s change (body ++ l ∷ []) ≡ refusal_at change s.max (graph s) (triples_of body) (1 + length body) l
   decided = refusal-push change s.max (graph s) [] 1 body l good
 
-  pub bad_line : (number : ℕ) → number ≡ length body + 1 → says l ≡ None → block_refusal s change (body ++ l ∷ []) ≡ Some (answers.BadLine number)
+  pub bad_line : (number : ℕ) → number ≡ length body + 1 → l ≡ None → batch_refusal s change (body ++ l ∷ []) ≡ Some (answers.BadLine number)
   bad_line number n bad = decided ∙ ap (refusal_at change s.max (graph s) (triples_of body) (1 + length body)) bad ∙ ap (λ k. Some (answers.BadLine k)) (let e : 1 + length body ≡ number = omega arith in e)
 
-  module _ (r : Option model.Triple) (said : says l ≡ Some r) where
-    by_size : block_refusal s change (body ++ l ∷ []) ≡ (if is_over change s.max (graph s) (triples_of body ++ triples_said (Some r)) then Some (answers.FullAt (1 + length body)) else None)
+  module _ (r : Option model.Triple) (said : l ≡ Some r) where
+    by_size : batch_refusal s change (body ++ l ∷ []) ≡ (if is_over change s.max (graph s) (triples_of body ++ triples_said (Some r)) then Some (answers.FullAt (1 + length body)) else None)
     by_size = decided ∙ ap (refusal_at change s.max (graph s) (triples_of body) (1 + length body)) said
 
-    pub full_line : (number : ℕ) → number ≡ length body + 1 → is_over change s.max (graph s) (triples_of body ++ triples_said (Some r)) ≡ true → block_refusal s change (body ++ l ∷ []) ≡ Some (answers.FullAt number)
+    pub full_line : (number : ℕ) → number ≡ length body + 1 → is_over change s.max (graph s) (triples_of body ++ triples_said (Some r)) ≡ true → batch_refusal s change (body ++ l ∷ []) ≡ Some (answers.FullAt number)
     full_line number n over = by_size ∙ ap (λ b. if b then Some (answers.FullAt (1 + length body)) else None) over ∙ ap (λ k. Some (answers.FullAt k)) (let e : 1 + length body ≡ number = omega arith in e)
 
-    pub good_line : is_over change s.max (graph s) (triples_of body ++ triples_said (Some r)) ≡ false → block_refusal s change (body ++ l ∷ []) ≡ None
+    pub good_line : is_over change s.max (graph s) (triples_of body ++ triples_said (Some r)) ≡ false → batch_refusal s change (body ++ l ∷ []) ≡ None
     good_line fits = by_size ∙ ap (λ b. if b then Some (answers.FullAt (1 + length body)) else None) fits
 
     pub triples_more : triples_of (body ++ l ∷ []) ≡ triples_of body ++ triples_said (Some r)
     triples_more = triples_of-push body l ∙ ap (λ o. triples_of body ++ triples_said o) said
 
 -- a refused block stays refused
-pub cause_stays : (s : State) (change : script.Change) (body : List Line) (l : Line) (r : Refusal) → IsCause s change body r → IsCause s change (body ++ l ∷ []) r
+pub cause_stays : (s : State) (change : script.Change) (body : List Saying) (l : Saying) (r : Refusal) → IsCause s change body r → IsCause s change (body ++ l ∷ []) r
 cause_stays s change body l (cause.Line n) h = refusal-front change s.max (graph s) [] 1 (answers.BadLine n) body (l ∷ []) h
 cause_stays s change body l (cause.Full n) h = refusal-front change s.max (graph s) [] 1 (answers.FullAt n) body (l ∷ []) h
 cause_stays s change body l cause.Memory h = h
@@ -57,7 +57,7 @@ cause_stays s change body l cause.Unended h = h
 
 -- ---- lines that are staged
 
-module _ (s : State) (body : List Line) (old : State) (b : Staging) (h : AreStaged s body old b) where
+module _ (s : State) (body : List Saying) (old : State) (b : Staging) (h : AreStaged s body old b) where
   same_max : old.max ≡ s.max
   same_max = ap (λ z. z.max) h.start
 
@@ -74,10 +74,10 @@ module _ (s : State) (body : List Line) (old : State) (b : Staging) (h : AreStag
   alone i = nat_lt (same_max i) (set.len (h.same i))
 
   -- a line that says no triple
-  pub note_full : (l : Line) (number : ℕ) → number ≡ length body + 1 → says l ≡ Some None → true ≡ nat_lt old.max (set.len (graph old)) → block_refusal s script.Inserts (body ++ l ∷ []) ≡ Some (answers.FullAt number)
+  pub note_full : (l : Saying) (number : ℕ) → number ≡ length body + 1 → l ≡ Some None → true ≡ nat_lt old.max (set.len (graph old)) → batch_refusal s script.Inserts (body ++ l ∷ []) ≡ Some (answers.FullAt number)
   note_full l number n said e = full_line s script.Inserts body l h.good None said number n (over_alone s.max (graph s) (triples_of body) room (sym alone ∙ sym e))
 
-  pub note_staged : (l : Line) → says l ≡ Some None → false ≡ nat_lt old.max (set.len (graph old)) → AreStaged s (body ++ l ∷ []) old b
+  pub note_staged : (l : Saying) → l ≡ Some None → false ≡ nat_lt old.max (set.len (graph old)) → AreStaged s (body ++ l ∷ []) old b
   note_staged l said e = record {
     fits = h.fits;
     start = h.start;
@@ -87,7 +87,7 @@ module _ (s : State) (body : List Line) (old : State) (b : Staging) (h : AreStag
     within = h.within;
   }
 
-  module _ (l : Line) (t : model.Triple) (said : says l ≡ Some (Some t)) where
+  module _ (l : Saying) (t : model.Triple) (said : l ≡ Some (Some t)) where
     full_for : IsFull old b t → IsFullFor s.max (graph s) (triples_of body) t
     full_for (inl lt) = inl (omega (arith, lt, same_max, ap set.len h.same))
     full_for (inr f) = inr (
@@ -105,7 +105,7 @@ module _ (s : State) (body : List Line) (old : State) (b : Staging) (h : AreStag
     )
 
     -- a triple for which there is no place
-    pub triple_full : (number : ℕ) → number ≡ length body + 1 → IsFull old b t → block_refusal s script.Inserts (body ++ l ∷ []) ≡ Some (answers.FullAt number)
+    pub triple_full : (number : ℕ) → number ≡ length body + 1 → IsFull old b t → batch_refusal s script.Inserts (body ++ l ∷ []) ≡ Some (answers.FullAt number)
     triple_full number n full = full_line s script.Inserts body l h.good (Some t) said number n (full_over s.max (graph s) (triples_of body) t (full_for full))
 
     -- a triple that is staged
@@ -129,15 +129,15 @@ module _ (s : State) (body : List Line) (old : State) (b : Staging) (h : AreStag
 
 -- ---- lines that are marked
 
-module _ (s : State) (body : List Line) (taken : IdSet) (h : AreToGo s body taken) where
-  pub note_marked : (l : Line) → says l ≡ Some None → AreToGo s (body ++ l ∷ []) taken
+module _ (s : State) (body : List Saying) (taken : IdSet) (h : AreToGo s body taken) where
+  pub note_marked : (l : Saying) → l ≡ Some None → AreToGo s (body ++ l ∷ []) taken
   note_marked l said = record {
     there = h.there;
     triples = h.triples ∙ ap (had (graph s)) (sym (triples_more s script.Deletes body l h.good None said ∙ append-nil (triples_of body)));
     good = good_line s script.Deletes body l h.good None said refl;
   }
 
-  pub triple_marked : (l : Line) (t : model.Triple) (more : IdSet) → says l ≡ Some (Some t) → AreMarked s more
+  pub triple_marked : (l : Saying) (t : model.Triple) (more : IdSet) → l ≡ Some (Some t) → AreMarked s more
       → marked_graph s more ≡ (if set.contains (graph s) t then set.insert (marked_graph s taken) t else marked_graph s taken) → AreToGo s (body ++ l ∷ []) more
   triple_marked l t more said there marked = record {
     there = there;
@@ -147,62 +147,49 @@ module _ (s : State) (body : List Line) (taken : IdSet) (h : AreToGo s body take
     good = good_line s script.Deletes body l h.good (Some t) said refl;
   }
 
--- ---- what a block does
+-- ---- what lines do
 
-not_ended : (change : script.Change) (body : List Line) → script.Block change body ≡ script.Unended → ⊥
-not_ended change body e = let t : ⊥ = cc in t
+module _ (s : State) (change : script.Change) (body : List Saying) (sound : IsSound s) where
+  pub lack_memory : (t : State) → t ≡ s → ChangesStore s change body t (answers.Refused answers.NoMemory)
+  lack_memory t is = subst (λ z. ChangesStore s change body z (answers.Refused answers.NoMemory)) (sym is) (record { changes = no_memory; refused = λ _. refl; sound = sound; max = refl })
 
-pub no_memory : (s t : State) (change : script.Change) (body : List Line) → IsSound s → t ≡ s → Carries s (script.Block change body) t (answers.Refused answers.NoMemory)
-no_memory s t change body sound is = subst (λ z. Carries s (script.Block change body) z (answers.Refused answers.NoMemory)) (sym is) (record {
-  step = inr (inr (not_ended change body, refl, refl));
-  refused = λ _. refl;
-  sound = sound;
-  max = refl;
-})
+  refused_by : (r : answers.Refusal) → batch_refusal s change body ≡ Some r → ChangesStore s change body s (answers.Refused r)
+  refused_by r e = record { changes = refused r e; refused = λ _. refl; sound = sound; max = refl }
 
-refused_by : (s : State) (change : script.Change) (body : List Line) (r : answers.Refusal) → IsSound s → block_refusal s change body ≡ Some r → Carries s (script.Block change body) s (answers.Refused r)
-refused_by s change body r sound e = record { step = inr (inl (r, e, refl, refl)); refused = λ _. refl; sound = sound; max = refl }
+  pub refused_batch : (t : State) (r : Refusal) → t ≡ s → IsCause s change body r → ChangesStore s change body t (answers.Refused (refusal_of r))
+  refused_batch t r is h = subst (λ z. ChangesStore s change body z (answers.Refused (refusal_of r))) (sym is) (by r h) where
+    by : (r : Refusal) → IsCause s change body r → ChangesStore s change body s (answers.Refused (refusal_of r))
+    by (cause.Line n) h = refused_by (answers.BadLine n) h
+    by (cause.Full n) h = refused_by (answers.FullAt n) h
+    by cause.Memory h = lack_memory s refl
+    by cause.Command h = absurd h
+    by cause.Query h = absurd h
+    by cause.File h = absurd h
+    by cause.Long h = absurd h
+    by cause.Prefix h = absurd h
+    by cause.Size h = absurd h
+    by cause.Unended h = absurd h
 
-pub refused_block : (s t : State) (change : script.Change) (body : List Line) (r : Refusal) → IsSound s → t ≡ s → IsCause s change body r → Carries s (script.Block change body) t (answers.Refused (refusal_of r))
-refused_block s t change body r sound is h = subst (λ z. Carries s (script.Block change body) z (answers.Refused (refusal_of r))) (sym is) (by r h) where
-  by : (r : Refusal) → IsCause s change body r → Carries s (script.Block change body) s (answers.Refused (refusal_of r))
-  by (cause.Line n) h = refused_by s change body (answers.BadLine n) sound h
-  by (cause.Full n) h = refused_by s change body (answers.FullAt n) sound h
-  by cause.Memory h = no_memory s s change body sound refl
-  by cause.Command h = absurd h
-  by cause.Query h = absurd h
-  by cause.File h = absurd h
-  by cause.Long h = absurd h
-  by cause.Prefix h = absurd h
-  by cause.Size h = absurd h
-  by cause.Unended h = absurd h
-
-pub inserted : (s : State) (body : List Line) (old : State) (b : Staging) (t : State) (changed now : ℕ) → AreStaged s body old b
+pub inserted : (s : State) (body : List Saying) (old : State) (b : Staging) (t : State) (changed now : ℕ) → AreStaged s body old b
     → graph t ≡ set.union (graph old) (staged_graph old b) → changed ≡ set.len (staged_graph old b) → now ≡ set.len (graph t) → IsSound t → t.max ≡ old.max
-    → Carries s (script.Block script.Inserts body) t (answers.Done (answers.New changed now))
+    → ChangesStore s script.Inserts body t (answers.Done (answers.New changed now))
 inserted s body old b t changed now h is c n sound max = record {
-  step = inl (
-    h.good,
-    (
-      is ∙ (λ i. set.union (h.same i) (h.triples i)) ∙ union-lacked (graph s) (triples_of body),
-      (λ i. answers.Done (answers.New ((c ∙ ap set.len h.triples) i) (n i))),
-    ),
+  changes = done (graph t) (answers.Done (answers.New changed now)) h.good (
+    is ∙ (λ i. set.union (h.same i) (h.triples i)) ∙ union-lacked (graph s) (triples_of body),
+    (λ i. answers.Done (answers.New ((c ∙ ap set.len h.triples) i) (n i))),
   );
   refused = λ e. let f : false ≡ true = e in cc;
   sound = sound;
   max = max ∙ same_max s body old b h;
 }
 
-pub deleted : (s : State) (body : List Line) (taken : IdSet) (t : State) (changed now : ℕ) → AreToGo s body taken
+pub deleted : (s : State) (body : List Saying) (taken : IdSet) (t : State) (changed now : ℕ) → AreToGo s body taken
     → graph t ≡ set.difference (graph s) (marked_graph s taken) → changed ≡ set.len (marked_graph s taken) → now ≡ set.len (graph t) → IsSound t → t.max ≡ s.max
-    → Carries s (script.Block script.Deletes body) t (answers.Done (answers.Gone changed now))
+    → ChangesStore s script.Deletes body t (answers.Done (answers.Gone changed now))
 deleted s body taken t changed now h is c n sound max = record {
-  step = inl (
-    h.good,
-    (
-      is ∙ ap (set.difference (graph s)) h.triples ∙ difference-had (graph s) (triples_of body),
-      (λ i. answers.Done (answers.Gone ((c ∙ ap set.len h.triples) i) (n i))),
-    ),
+  changes = done (graph t) (answers.Done (answers.Gone changed now)) h.good (
+    is ∙ ap (set.difference (graph s)) h.triples ∙ difference-had (graph s) (triples_of body),
+    (λ i. answers.Done (answers.Gone ((c ∙ ap set.len h.triples) i) (n i))),
   );
   refused = λ e. let f : false ≡ true = e in cc;
   sound = sound;

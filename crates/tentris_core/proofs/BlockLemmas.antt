@@ -1,11 +1,17 @@
 -- The commands of lines, one by one, and what is known where a script stands between two lines.
-use Rattle.std.proofs.Common.{◌≡◌, ◌∙◌, ◌≤◌, inl, inr, true, false, cond, List, [], ◌∷◌, ◌++◌, refl, sym, ap, subst, arith}
+use Rattle.std.proofs.Common.{◌≡◌, ◌∙◌, ℕ, ◌≤◌, inl, inr, true, false, cond, List, [], ◌∷◌, ◌++◌, length, refl, sym, ap, subst, arith}
 use Rattle.std.specs.Prelude.{None, Some}
+use Rattle.std.specs.declared.option.Option.{Option}
 use Rattle.std.specs.FinSet as set
 use Rattle.text_lines.specs.Lines.{Line}
 use Rattle.script_model.specs.Commands as script
 use Rattle.run_model.specs.Answers as answers
-use Rattle.rdf_model.specs.Graph.{triple_cmp}
+use Rattle.run_model.specs.Answers.{is_refused}
+use Rattle.run_model.specs.Sayings.{Saying, says, sayings}
+use Rattle.run_model.specs.Worlds.{Config, World, FailedRead}
+use Rattle.run_model.specs.Steps as steps
+use Rattle.run_model.specs.Steps.{Step, Answers}
+use Rattle.rdf_model.specs.Graph.{Graph, triple_cmp}
 use Rattle.graph_image.specs.ImageLaws.{graph_of-empty}
 use Rattle.graph_store.specs.State.{State, graph, IsSettled, most_triples}
 use Rattle.graph_store.specs.Staging.{nothing_staged, AreMarked}
@@ -17,17 +23,21 @@ use Rattle.tentris_core.specs.declared.batch.Batch.TheVariants.{Inserts, Deletes
 use Rattle.tentris_core.specs.declared.block.Block.{Block}
 use Rattle.tentris_core.specs.declared.block.Place.{Place}
 use Rattle.tentris_core.specs.declared.block.Place.TheVariants as place
-use Rattle.tentris_core.specs.Seen.{answer_of}
-use Rattle.tentris_core.specs.Batches.{IsBatch, IsReady, IsCause, AreStaged, AreToGo}
-use Rattle.tentris_core.specs.Carrying.{IsSound, Carries}
-use Rattle.tentris_core.specs.Places.{Position, Outside, Inside, IsBlock, IsAt, TakesLine}
+use Rattle.tentris_core.specs.declared.outcome.Outcome.{Outcome}
+use Rattle.tentris_core.specs.declared.outcome.Outcome.TheVariants.{GoesOn, Answered, Cut}
+use Rattle.tentris_core.specs.Seen.{answer_of, Tells}
+use Rattle.tentris_core.specs.Puts.{WritesAnswer}
+use Rattle.tentris_core.specs.Batches as changed
+use Rattle.tentris_core.specs.Batches.{IsBatch, IsReady, IsCause, AreStaged, AreToGo, ChangesBy, ChangesStore}
+use Rattle.tentris_core.specs.Carrying.{Around, config_in, world_in, IsSound, Carries}
+use Rattle.tentris_core.specs.Places.{Position, Outside, Inside, IsBlock, IsAt, EndsCommand, LeadsTo, LeadsOn, MeetsLine, TakesLine}
 use Rattle.tentris_core.proofs.GraphLemmas.{lacked-none, had-none}
 use Rattle.tentris_core.proofs.BatchLemmas.{cause_stays}
 
 -- ---- batches
 
 -- a batch of a sound store can be carried out
-pub ready_batch : (s : State) (change : script.Change) (body : List Line) (held : State) (b : Batch) → IsSound s → IsBatch s change body held b → IsReady held b
+pub ready_batch : (s : State) (change : script.Change) (body : List Saying) (held : State) (b : Batch) → IsSound s → IsBatch s change body held b → IsReady held b
 ready_batch s script.Inserts body held (Inserts staged) sound h = h.fits
 ready_batch s script.Deletes body held (Inserts staged) sound h = absurd h
 ready_batch s script.Inserts body held (Deletes taken) sound h = absurd h
@@ -36,7 +46,7 @@ ready_batch s script.Inserts body held (Refused cause) sound h = tt
 ready_batch s script.Deletes body held (Refused cause) sound h = tt
 
 -- a refused batch with one more line
-pub refused_more : (s : State) (change : script.Change) (body : List Line) (now : State) (l : Line) (r : Refusal) → IsBatch s change body now (Refused r) → (now ≡ s) × IsCause s change (body ++ l ∷ []) r
+pub refused_more : (s : State) (change : script.Change) (body : List Saying) (now : State) (l : Saying) (r : Refusal) → IsBatch s change body now (Refused r) → (now ≡ s) × IsCause s change (body ++ l ∷ []) r
 refused_more s script.Inserts body now l r h = (h.0, cause_stays s script.Inserts body l r h.1)
 refused_more s script.Deletes body now l r h = (h.0, cause_stays s script.Deletes body l r h.1)
 
@@ -54,6 +64,41 @@ none_staged s settled few = record {
 pub none_marked : (s : State) → AreToGo s [] set.empty
 none_marked s = record { there = marked_nothing s; triples = graph_of-empty s.dict ∙ sym (had-none (graph s)); good = refl }
 
+-- ---- what lines do, as commands
+
+-- lines of a block
+pub block_step : (A : Around) (s : State) (change : script.Change) (body : List Line) (t : State) (a : answers.Answer) → ChangesStore s change (sayings [] body) t a
+    → Carries A s (script.Block (script.Triples change) body) t a None
+block_step A s change body t a h = record { step = by (graph t) a h.changes; refused = h.refused; sound = h.sound; max = h.max } where
+  cfg : Config
+  cfg = config_in A s
+
+  W : World
+  W = world_in A s
+
+  c : script.Command
+  c = script.Block (script.Triples change) body
+
+  by : (H : Graph) (a : answers.Answer) → ChangesBy s.max change (sayings [] body) (graph s) H a → Step cfg W c (record W { graph = H }) a None
+  by _ _ (changed.done H a none does) = steps.done c H a none does
+  by _ _ (changed.refused r e) = steps.refused c r e
+  by _ _ changed.no_memory = steps.no_memory c (λ e. let t : ⊥ = cc in t)
+
+-- a command that changes nothing, and is answered
+pub answer_step : (A : Around) (s : State) (c : script.OneLine) (a : answers.Answer) → IsSound s → Answers (graph s) c a → is_refused a ≡ false → Carries A s (script.Single c) s a None
+answer_step A s c a sound h good = record {
+  step = steps.done (script.Single c) (graph s) a refl (refl, h);
+  refused = λ e. absurd (clash (sym good ∙ e));
+  sound = sound;
+  max = refl;
+} where
+  clash : false ≡ true → ⊥
+  clash e = let t : ⊥ = cc in t
+
+-- memory ran out for a command
+pub memory_step : (A : Around) (s : State) (c : script.OneLine) → IsSound s → Carries A s (script.Single c) s (answers.Refused answers.NoMemory) None
+memory_step A s c sound = record { step = steps.no_memory (script.Single c) (λ e. let t : ⊥ = cc in t); refused = λ _. refl; sound = sound; max = refl }
+
 -- ---- places
 
 pub record IsInside (s now : State) (block : Block) : Type 0 where
@@ -63,63 +108,103 @@ pub record IsInside (s now : State) (block : Block) : Type 0 where
 
 pub inside_at : (p : Position) (s now : State) (block : Block) → IsAt p s now (place.Inside block) → IsInside s now block
 inside_at Outside s now block h = absurd h
-inside_at (Inside change body) s now block h = record { change = change; body = body; is = h }
+inside_at (Inside (script.Triples change) body) s now block h = record { change = change; body = body; is = h }
 
 -- ---- lines outside a block
 
-of_form : (l : Line) → false ≡ script.skipped l → (rest : List Line) → script.outside (l ∷ rest) ≡ script.from_form (script.form_of l) (script.outside rest) (λ change. script.inside change [] rest)
-of_form l told rest = ap (λ b. cond b (script.outside rest) (script.from_form (script.form_of l) (script.outside rest) (λ change. script.inside change [] rest))) (sym told)
+of_form : (l : Line) → false ≡ script.skipped l → (rest : List Line) → script.outside (l ∷ rest) ≡ script.from_form (script.form_of l) (script.outside rest) (λ kind. script.inside kind [] rest)
+of_form l told rest = ap (λ b. cond b (script.outside rest) (script.from_form (script.form_of l) (script.outside rest) (λ kind. script.inside kind [] rest))) (sym told)
 
--- a line that says nothing
-pub takes_note : (l : Line) (s : State) → true ≡ script.skipped l → TakesLine Outside l s s place.Outside None
-takes_note l s told = record {
-  next = Outside;
-  after = s;
-  is_at = refl;
-  leads = (refl, λ rest. ap (λ b. cond b (script.outside rest) (script.from_form (script.form_of l) (script.outside rest) (λ change. script.inside change [] rest))) (sym told));
-  had = omega arith;
-}
+module _ (A : Around) (l : Line) (s : State) where
+  -- a line that says nothing
+  pub meets_note : true ≡ script.skipped l → MeetsLine A Outside l s s place.Outside None
+  meets_note told = record {
+    next = Outside;
+    after = s;
+    is_at = refl;
+    leads = (refl, λ rest. ap (λ b. cond b (script.outside rest) (script.from_form (script.form_of l) (script.outside rest) (λ kind. script.inside kind [] rest))) (sym told));
+    had = omega arith;
+  }
 
--- a line that is a whole command
-pub takes_command : (l : Line) (s : State) (c : script.Command) (a : Answer) → false ≡ script.skipped l → Some (script.Whole c) ≡ script.form_of l → script.is_closed c ≡ true → Carries s c s (answer_of a) → TakesLine Outside l s s place.Outside (Some a)
-takes_command l s c a told form closed carries = record {
-  next = Outside;
-  after = s;
-  is_at = refl;
-  leads = (c, closed, (λ rest. of_form l told rest ∙ ap (λ f. script.from_form f (script.outside rest) (λ change. script.inside change [] rest)) (sym form)), carries);
-  had = omega arith;
-}
+  -- a line that is a whole command
+  pub meets_command : (c : script.OneLine) (a : Answer) (failed : Option FailedRead) → false ≡ script.skipped l → Some (script.Whole c) ≡ script.form_of l → Carries A s (script.Single c) s (answer_of a) failed → MeetsLine A Outside l s s place.Outside (Some a)
+  meets_command c a failed told form carries = record {
+    next = Outside;
+    after = s;
+    is_at = refl;
+    leads = (
+      record {
+        command = script.Single c;
+        closed = refl;
+        are = λ rest. of_form l told rest ∙ ap (λ f. script.from_form f (script.outside rest) (λ kind. script.inside kind [] rest)) (sym form);
+        answer = answer_of a;
+        failed = failed;
+        carries = carries;
+      },
+      refl,
+    );
+    had = omega arith;
+  }
 
--- a line that is no command
-pub takes_bad : (l : Line) (s : State) (a : Answer) → answer_of a ≡ answers.Refused answers.NoCommand → false ≡ script.skipped l → None ≡ script.form_of l → IsSound s → TakesLine Outside l s s place.Outside (Some a)
-takes_bad l s a is told form sound = record {
-  next = Outside;
-  after = s;
-  is_at = refl;
-  leads = (
-    script.Bad,
-    refl,
-    (λ rest. of_form l told rest ∙ ap (λ f. script.from_form f (script.outside rest) (λ change. script.inside change [] rest)) (sym form)),
-    subst (Carries s script.Bad s) (sym is) (record { step = inr (inl (answers.NoCommand, refl, refl, refl)); refused = λ _. refl; sound = sound; max = refl }),
-  );
-  had = omega arith;
-}
+  -- a line that is no command
+  pub meets_bad : (a : Answer) → answer_of a ≡ answers.Refused answers.NoCommand → false ≡ script.skipped l → None ≡ script.form_of l → IsSound s → MeetsLine A Outside l s s place.Outside (Some a)
+  meets_bad a is told form sound = record {
+    next = Outside;
+    after = s;
+    is_at = refl;
+    leads = (
+      record {
+        command = script.Bad;
+        closed = refl;
+        are = λ rest. of_form l told rest ∙ ap (λ f. script.from_form f (script.outside rest) (λ kind. script.inside kind [] rest)) (sym form);
+        answer = answer_of a;
+        failed = None;
+        carries = subst (λ z. Carries A s script.Bad s z None) (sym is) (record { step = steps.refused script.Bad answers.NoCommand refl; refused = λ _. refl; sound = sound; max = refl });
+      },
+      refl,
+    );
+    had = omega arith;
+  }
 
--- a line that begins a block
-pub takes_begin : (l : Line) (s : State) (change : script.Change) (q : Place) → false ≡ script.skipped l → Some (script.Begins change) ≡ script.form_of l → IsAt (Inside change []) s s q → TakesLine Outside l s s q None
-takes_begin l s change q told form at = record {
-  next = Inside change [];
-  after = s;
-  is_at = at;
-  leads = (refl, λ rest. of_form l told rest ∙ ap (λ f. script.from_form f (script.outside rest) (λ change. script.inside change [] rest)) (sym form));
-  had = omega arith;
-}
+  -- a line that begins a block
+  pub meets_begin : (kind : script.Kind) (q : Place) → false ≡ script.skipped l → Some (script.Begins kind) ≡ script.form_of l → IsAt (Inside kind []) s s q → MeetsLine A Outside l s s q None
+  meets_begin kind q told form at = record {
+    next = Inside kind [];
+    after = s;
+    is_at = at;
+    leads = (refl, λ rest. of_form l told rest ∙ ap (λ f. script.from_form f (script.outside rest) (λ kind. script.inside kind [] rest)) (sym form));
+    had = omega arith;
+  }
 
 -- ---- lines of a block
 
 -- a line that ends it, and one that doesn't
-pub ends_it : (l : Line) (change : script.Change) (body : List Line) → true ≡ script.ends_block l → (rest : List Line) → script.inside change body (l ∷ rest) ≡ script.Block change body ∷ script.outside rest
-ends_it l change body told rest = ap (λ b. cond b (script.Block change body ∷ script.outside rest) (script.inside change (body ++ l ∷ []) rest)) (sym told)
+pub ends_it : (l : Line) (kind : script.Kind) (body : List Line) → true ≡ script.ends_block l → (rest : List Line) → script.inside kind body (l ∷ rest) ≡ script.Block kind body ∷ script.outside rest
+ends_it l kind body told rest = ap (λ b. cond b (script.Block kind body ∷ script.outside rest) (script.inside kind (body ++ l ∷ []) rest)) (sym told)
 
-pub goes_on : (l : Line) (change : script.Change) (body : List Line) → false ≡ script.ends_block l → (rest : List Line) → script.inside change body (l ∷ rest) ≡ script.inside change (body ++ l ∷ []) rest
-goes_on l change body told rest = ap (λ b. cond b (script.Block change body ∷ script.outside rest) (script.inside change (body ++ l ∷ []) rest)) (sym told)
+pub goes_on : (l : Line) (kind : script.Kind) (body : List Line) → false ≡ script.ends_block l → (rest : List Line) → script.inside kind body (l ∷ rest) ≡ script.inside kind (body ++ l ∷ []) rest
+goes_on l kind body told rest = ap (λ b. cond b (script.Block kind body ∷ script.outside rest) (script.inside kind (body ++ l ∷ []) rest)) (sym told)
+
+-- one line more of a block, as what it says
+pub sayings_push : (body : List Line) (l : Line) → sayings [] (body ++ l ∷ []) ≡ sayings [] body ++ says [] l ∷ []
+sayings_push [] l = refl
+sayings_push (m ∷ body) l = ap (λ z. says [] m ∷ z) (sayings_push body l)
+
+pub sayings_length : (body : List Line) → length (sayings [] body) ≡ length body
+sayings_length [] = refl
+sayings_length (m ∷ body) = omega (arith, sayings_length body)
+
+-- ---- what is passed on
+
+-- a line, and then its answer
+pub takes_told : (A : Around) (p : Position) (l : Line) (s now : State) (q : Place) (answer : Option Answer) (before after : Option (List ℕ)) (outcome : Outcome)
+    → MeetsLine A p l s now q answer → Tells before after outcome answer → TakesLine A p l s now q before after outcome
+takes_told A p l s now q answer before after outcome m t = record { next = m.next; after = m.after; is_at = m.is_at; leads = by answer m.leads outcome t; had = m.had } where
+  some : (a : Answer) (e : EndsCommand A p l s m.next m.after) → e.answer ≡ answer_of a → (o : Outcome) → WritesAnswer before after o (answer_of a) → LeadsOn A p l s m.next m.after before after o
+  some a e is GoesOn w = absurd w
+  some a e is (Answered refused) w = (e, subst (WritesAnswer before after (Answered refused)) (sym is) w)
+  some a e is Cut w = (e, subst (WritesAnswer before after Cut) (sym is) w)
+
+  by : (answer : Option Answer) → LeadsTo A p l s m.next m.after answer → (o : Outcome) → Tells before after o answer → LeadsOn A p l s m.next m.after before after o
+  by None leads o t = subst (LeadsOn A p l s m.next m.after before after) (sym t.1) (leads.0, leads.1, t.0)
+  by (Some a) leads o t = some a leads.0 leads.1 o t

@@ -1,16 +1,20 @@
--- What is known of the lines of a block, and of the store in which their triples are staged or marked.
-use Rattle.std.specs.Prelude.{◌≡◌, ◌⊎◌, ℕ, ◌+◌, ◌≤◌, List, [], Option, Some, None}
+-- What is known of the lines of a batch, and of the store in which their triples are staged or marked.
+use Rattle.std.specs.Prelude.{◌≡◌, ◌⊎◌, ℕ, ◌+◌, ◌≤◌, true, List, [], Option, Some, None}
 use Rattle.std.specs.Borrow.{Bor}
 use Rattle.std.specs.FinSet as set
 use Rattle.hypertrie_model.specs.IdSets.{IdSet}
+use Rattle.rdf_model.specs.Graph.{Graph}
 use Rattle.text_lines.specs.Lines.{Line}
 use Rattle.script_model.specs.Commands as script
 use Rattle.run_model.specs.Answers as answers
-use Rattle.run_model.specs.Blocks.{triples_of, first_refusal}
+use Rattle.run_model.specs.Answers.{is_refused}
+use Rattle.run_model.specs.Sayings.{Saying, triples_of, first_refusal}
+use Rattle.run_model.specs.Steps.{Changes}
 use Rattle.graph_store.specs.State.{State, graph, IsSettled}
 use Rattle.graph_store.specs.Staging.{Staging, staged_graph, Fits, before, AreMarked, marked_graph}
 use Rattle.answer_text.specs.declared.Refusal.{Refusal}
 use Rattle.answer_text.specs.declared.Refusal.TheVariants as cause
+use Rattle.tentris_core.specs.Carrying.{IsSound}
 use Rattle.tentris_core.specs.declared.batch.Batch.{Batch}
 use Rattle.tentris_core.specs.declared.batch.Batch.TheVariants.{Inserts, Deletes, Refused}
 
@@ -19,45 +23,58 @@ abbrev pub lent_line : Option (Bor (List ℕ)) → Line
 lent_line None = None
 lent_line (Some line) = Some line.now
 
--- the refusal of a block of these lines over the store s
-abbrev pub block_refusal : State → script.Change → List Line → Option answers.Refusal
-block_refusal s change body = first_refusal change s.max (graph s) [] 1 body
+-- What lines change in a graph that may have so many triples, and the answer: all of them, or nothing with a refusal.
+pub data ChangesBy (most : ℕ) (change : script.Change) (said : List Saying) (G : Graph) : Graph → answers.Answer → Type 0 where
+  done : (H : Graph) (a : answers.Answer) → first_refusal change most G said ≡ None → Changes change G said H a → ChangesBy most change said G H a
+  refused : (r : answers.Refusal) → first_refusal change most G said ≡ Some r → ChangesBy most change said G G (answers.Refused r)
+  no_memory : ChangesBy most change said G G (answers.Refused answers.NoMemory)
 
--- why the block is refused
-abbrev pub IsCause : State → script.Change → List Line → Refusal → Type 0
-IsCause s change body (cause.Line number) = block_refusal s change body ≡ Some (answers.BadLine number)
-IsCause s change body (cause.Full number) = block_refusal s change body ≡ Some (answers.FullAt number)
-IsCause s change body cause.Memory = Unit {0}
-IsCause s change body cause.Command = ⊥
-IsCause s change body cause.Query = ⊥
-IsCause s change body cause.File = ⊥
-IsCause s change body cause.Long = ⊥
-IsCause s change body cause.Prefix = ⊥
-IsCause s change body cause.Size = ⊥
-IsCause s change body cause.Unended = ⊥
+-- The lines took the store from s to t.
+pub record ChangesStore (s : State) (change : script.Change) (said : List Saying) (t : State) (a : answers.Answer) : Type 0 where
+  pub changes : ChangesBy s.max change said (graph s) (graph t) a
+  pub refused : is_refused a ≡ true → t ≡ s
+  pub sound : IsSound t
+  pub max : t.max ≡ s.max
 
--- The triples of the lines that the graph lacks are staged in the store, which was s before the block.
-pub record AreStaged (s : State) (body : List Line) (now : State) (staged : Staging) : Type 0 where
+-- the refusal of these lines over the store s
+abbrev pub batch_refusal : State → script.Change → List Saying → Option answers.Refusal
+batch_refusal s change said = first_refusal change s.max (graph s) said
+
+-- why the lines are refused
+abbrev pub IsCause : State → script.Change → List Saying → Refusal → Type 0
+IsCause s change said (cause.Line number) = batch_refusal s change said ≡ Some (answers.BadLine number)
+IsCause s change said (cause.Full number) = batch_refusal s change said ≡ Some (answers.FullAt number)
+IsCause s change said cause.Memory = Unit {0}
+IsCause s change said cause.Command = ⊥
+IsCause s change said cause.Query = ⊥
+IsCause s change said cause.File = ⊥
+IsCause s change said cause.Long = ⊥
+IsCause s change said cause.Prefix = ⊥
+IsCause s change said cause.Size = ⊥
+IsCause s change said cause.Unended = ⊥
+
+-- The triples of the lines that the graph lacks are staged in the store, which was s before the batch.
+pub record AreStaged (s : State) (said : List Saying) (now : State) (staged : Staging) : Type 0 where
   pub fits : Fits now staged
   pub start : before now staged ≡ s
   pub same : graph now ≡ graph s
-  pub triples : staged_graph now staged ≡ set.difference (set.from_list (triples_of body)) (graph s)
-  pub good : block_refusal s script.Inserts body ≡ None
+  pub triples : staged_graph now staged ≡ set.difference (set.from_list (triples_of said)) (graph s)
+  pub good : batch_refusal s script.Inserts said ≡ None
   pub within : (set.len (staged_graph now staged) ≡ 0) ⊎ (set.len (graph s) + set.len (staged_graph now staged) ≤ s.max)
 
 -- The triples of the lines that the graph has are marked in the store s.
-pub record AreToGo (s : State) (body : List Line) (taken : IdSet) : Type 0 where
+pub record AreToGo (s : State) (said : List Saying) (taken : IdSet) : Type 0 where
   pub there : AreMarked s taken
-  pub triples : marked_graph s taken ≡ set.intersection (set.from_list (triples_of body)) (graph s)
-  pub good : block_refusal s script.Deletes body ≡ None
+  pub triples : marked_graph s taken ≡ set.intersection (set.from_list (triples_of said)) (graph s)
+  pub good : batch_refusal s script.Deletes said ≡ None
 
--- what is known of the lines of a block over the store s, which is `now` while they are staged or marked
-abbrev pub IsBatch : State → script.Change → List Line → State → Batch → Type 0
-IsBatch s script.Inserts body now (Inserts staged) = AreStaged s body now staged
-IsBatch s script.Deletes body now (Inserts staged) = ⊥
-IsBatch s script.Inserts body now (Deletes taken) = ⊥
-IsBatch s script.Deletes body now (Deletes taken) = (now ≡ s) × AreToGo s body taken
-IsBatch s change body now (Refused cause) = (now ≡ s) × IsCause s change body cause
+-- what is known of the lines of a batch over the store s, which is `now` while they are staged or marked
+abbrev pub IsBatch : State → script.Change → List Saying → State → Batch → Type 0
+IsBatch s script.Inserts said now (Inserts staged) = AreStaged s said now staged
+IsBatch s script.Deletes said now (Inserts staged) = ⊥
+IsBatch s script.Inserts said now (Deletes taken) = ⊥
+IsBatch s script.Deletes said now (Deletes taken) = (now ≡ s) × AreToGo s said taken
+IsBatch s change said now (Refused cause) = (now ≡ s) × IsCause s change said cause
 
 -- the store can carry the batch out
 abbrev pub IsReady : State → Batch → Type 0

@@ -1,12 +1,30 @@
--- What one command does to a store, and a run of commands. `Step` says it of graphs; a refused command leaves the whole store as it was,
--- and after each command the store is settled, and its tables are the shape of its graph.
-use Rattle.std.specs.Prelude.{◌≡◌, ℕ, true, List, [], ◌∷◌}
+-- What one command does to a store, and a run of commands over stores. `Step` and `Run` say it of worlds; a refused command leaves the
+-- whole store as it was, and after each command the store is settled, and its tables are the shape of its graph.
+use Rattle.std.specs.Prelude.{◌≡◌, ℕ, Bool, true, false, List, [], ◌∷◌, Option, None, map}
+use Rattle.file_model.specs.FileMap.{FileMap}
 use Rattle.script_model.specs.Commands.{Command}
 use Rattle.run_model.specs.Answers.{Answer, is_refused}
-use Rattle.run_model.specs.Steps.{Step}
+use Rattle.run_model.specs.Worlds.{Config, World, FailedRead}
+use Rattle.run_model.specs.Steps.{Step, Event, Run}
 use Rattle.trie_context.specs.Kept.{AreKept}
 use Rattle.graph_store.specs.State.{State, graph, IsSettled}
 use Rattle.graph_store.specs.Stands.{Stands}
+
+-- Beside the store: whether rows are sorted, how many bytes the script and each file may have, and the files, where they are told.
+pub record Around : Type 0 where
+  pub sorted : Bool
+  pub most_bytes : ℕ
+  pub files : Option FileMap
+
+-- rows aren't sorted, and no files are told
+abbrev pub alone : ℕ → Around
+alone most = record { sorted = false; most_bytes = most; files = None }
+
+abbrev pub config_in : Around → State → Config
+config_in A s = record { sorted = A.sorted; most_triples = s.max; most_bytes = A.most_bytes }
+
+abbrev pub world_in : Around → State → World
+world_in A s = record { graph = graph s; files = A.files }
 
 -- the dictionary has exactly the graph's terms, and the tables are kept and have exactly the rows of the graph's shape
 pub record IsSound (s : State) : Type 0 where
@@ -14,13 +32,33 @@ pub record IsSound (s : State) : Type 0 where
   pub kept : (mixed : ℕ → ℕ → ℕ → ℕ → ℕ) × AreKept mixed s.tables
   pub stands : Stands s
 
-pub record Carries (s : State) (c : Command) (t : State) (a : Answer) : Type 0 where
-  pub step : Step s.max (graph s) c (graph t) a
+-- a command took the store from s to t
+pub record Carries (A : Around) (s : State) (c : Command) (t : State) (a : Answer) (failed : Option FailedRead) : Type 0 where
+  pub step : Step (config_in A s) (world_in A s) c (world_in A t) a failed
   pub refused : is_refused a ≡ true → t ≡ s
   pub sound : IsSound t
   pub max : t.max ≡ s.max
 
--- one command after another, with one answer each
-abbrev pub CarriesAll : State → List Command → State → List Answer → Type 0
-CarriesAll s [] t answers = (t ≡ s) × (answers ≡ [])
-CarriesAll s (c ∷ cs) t answers = (m : State) × (a : Answer) × (rest : List Answer) × Carries s c m a × CarriesAll m cs t rest × (answers ≡ a ∷ rest)
+-- one command of a run: what it answered, which read of it failed, and the store that it left
+pub record StoreEvent : Type 0 where
+  pub command : Command
+  pub answer : Answer
+  pub failed : Option FailedRead
+  pub store : State
+
+-- an event as one of a run over worlds
+abbrev pub event_in : Around → StoreEvent → Event
+event_in A e = record { command = e.command; answer = e.answer; failed = e.failed; world = world_in A e.store }
+
+abbrev pub events_in : Around → List StoreEvent → List Event
+events_in A = map (event_in A)
+
+-- one command after another, each from the store that the one before it left
+abbrev pub CarriesAll : Around → State → List StoreEvent → State → Type 0
+CarriesAll A s [] t = t ≡ s
+CarriesAll A s (e ∷ es) t = Carries A s e.command e.store e.answer e.failed × CarriesAll A e.store es t
+
+-- The commands took the store from s to t; over worlds this is a run.
+pub record RunsOver (A : Around) (s : State) (trace : List StoreEvent) (t : State) : Type 0 where
+  pub all : CarriesAll A s trace t
+  pub run : Run (config_in A s) (world_in A s) (events_in A trace) (world_in A t)

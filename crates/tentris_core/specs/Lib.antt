@@ -1,5 +1,5 @@
-pub mod Seen
 pub mod Puts
+pub mod Seen
 pub mod Carrying
 pub mod Batches
 pub mod Places

@@ -1,42 +1,49 @@
 -- Where a script stands between two of its lines, and what a line there does.
-use Rattle.std.specs.Prelude.{◌≡◌, ℕ, ◌+◌, ◌≤◌, true, List, ◌∷◌, length, Option, Some, None}
+use Rattle.std.specs.Prelude.{◌≡◌, ℕ, ◌+◌, ◌≤◌, true, List, [], ◌∷◌, length, Option, Some, None}
 use Rattle.text_lines.specs.Lines.{Line}
 use Rattle.script_model.specs.Commands as script
 use Rattle.script_model.specs.Commands.{Command, outside, inside, is_closed}
+use Rattle.run_model.specs.Answers as model
+use Rattle.run_model.specs.Sayings.{sayings}
+use Rattle.run_model.specs.Worlds.{FailedRead}
 use Rattle.graph_store.specs.State.{State}
 use Rattle.tentris_core.specs.declared.answer.Answer.{Answer}
+use Rattle.tentris_core.specs.declared.outcome.Outcome.{Outcome}
+use Rattle.tentris_core.specs.declared.outcome.Outcome.TheVariants.{GoesOn, Answered, Cut}
 use Rattle.tentris_core.specs.declared.block.Block.{Block}
 use Rattle.tentris_core.specs.declared.block.Place.{Place}
 use Rattle.tentris_core.specs.declared.block.Place.TheVariants as place
 use Rattle.tentris_core.specs.Seen.{answer_of}
+use Rattle.tentris_core.specs.Puts.{WritesAnswer}
 use Rattle.tentris_core.specs.Batches.{IsBatch, IsReady}
-use Rattle.tentris_core.specs.Carrying.{IsSound, Carries}
+use Rattle.tentris_core.specs.Carrying.{Around, IsSound, Carries}
 
 -- outside a block, or in a block that has had some lines
 pub data Position : Type 0 where
   Outside : Position
-  Inside : (change : script.Change) (body : List Line) → Position
+  Inside : (kind : script.Kind) (body : List Line) → Position
 
 -- the commands of the lines from there on
 abbrev pub commands_from : Position → List Line → List Command
 commands_from Outside ls = outside ls
-commands_from (Inside change body) ls = inside change body ls
+commands_from (Inside kind body) ls = inside kind body ls
 
 -- how many lines the block has had
 abbrev pub lines_had : Position → ℕ
 lines_had Outside = 0
-lines_had (Inside change body) = length body
+lines_had (Inside kind body) = length body
 
+-- the lines of a block of triples; their labels are left as they are
 pub record IsBlock (s : State) (change : script.Change) (body : List Line) (now : State) (block : Block) : Type 0 where
   pub count : block.lines ≡ length body
-  pub batch : IsBatch s change body now block.batch
+  pub batch : IsBatch s change (sayings [] body) now block.batch
 
 -- The store is `now`, and was s after the last command.
 abbrev pub IsAt : Position → State → State → Place → Type 0
 IsAt Outside s now place.Outside = now ≡ s
 IsAt Outside s now (place.Inside block) = ⊥
-IsAt (Inside change body) s now place.Outside = ⊥
-IsAt (Inside change body) s now (place.Inside block) = IsBlock s change body now block
+IsAt (Inside kind body) s now place.Outside = ⊥
+IsAt (Inside (script.Triples change) body) s now (place.Inside block) = IsBlock s change body now block
 
 -- how many lines the block of a place has had
 abbrev pub lines_in : Place → ℕ
@@ -48,16 +55,42 @@ abbrev pub IsReadyAt : State → Place → Type 0
 IsReadyAt now place.Outside = IsSound now
 IsReadyAt now (place.Inside block) = IsReady now block.batch
 
--- A line leads on to another position. It may end a command, which then takes the store from s to t with this answer.
-abbrev pub LeadsOn : Position → Line → State → Position → State → Option Answer → Type 0
-LeadsOn p l s q t None = (t ≡ s) × ((rest : List Line) → commands_from p (l ∷ rest) ≡ commands_from q rest)
-LeadsOn p l s q t (Some a) =
-    (c : Command) × (is_closed c ≡ true) × ((rest : List Line) → commands_from p (l ∷ rest) ≡ c ∷ commands_from q rest) × Carries s c t (answer_of a)
+-- A line leads on from one position to another, and ends no command.
+abbrev pub GoesTo : Position → Line → Position → Type 0
+GoesTo p l q = (rest : List Line) → commands_from p (l ∷ rest) ≡ commands_from q rest
+
+-- A line leads on to another position, and ends a command, which takes the store from s to t.
+pub record EndsCommand (A : Around) (p : Position) (l : Line) (s : State) (q : Position) (t : State) : Type 0 where
+  pub command : Command
+  pub closed : is_closed command ≡ true
+  pub are : (rest : List Line) → commands_from p (l ∷ rest) ≡ command ∷ commands_from q rest
+  pub answer : model.Answer
+  pub failed : Option FailedRead
+  pub carries : Carries A s command t answer failed
+
+-- what a line leads to, with an answer that isn't written yet
+abbrev pub LeadsTo : Around → Position → Line → State → Position → State → Option Answer → Type 0
+LeadsTo A p l s q t None = (t ≡ s) × GoesTo p l q
+LeadsTo A p l s q t (Some a) = (e : EndsCommand A p l s q t) × (e.answer ≡ answer_of a)
+
+-- What a line leads to, and what was written of the answer.
+abbrev pub LeadsOn : Around → Position → Line → State → Position → State → Option (List ℕ) → Option (List ℕ) → Outcome → Type 0
+LeadsOn A p l s q t before now GoesOn = (t ≡ s) × GoesTo p l q × (now ≡ before)
+LeadsOn A p l s q t before now (Answered refused) = (e : EndsCommand A p l s q t) × WritesAnswer before now (Answered refused) e.answer
+LeadsOn A p l s q t before now Cut = (e : EndsCommand A p l s q t) × WritesAnswer before now Cut e.answer
 
 -- a line was taken; the store was s after the last command before it, and is `now`
-pub record TakesLine (p : Position) (l : Line) (s now : State) (place : Place) (answer : Option Answer) : Type 0 where
+pub record MeetsLine (A : Around) (p : Position) (l : Line) (s now : State) (place : Place) (answer : Option Answer) : Type 0 where
   pub next : Position
   pub after : State
   pub is_at : IsAt next after now place
-  pub leads : LeadsOn p l s next after answer
+  pub leads : LeadsTo A p l s next after answer
+  pub had : lines_had next ≤ lines_had p + 1
+
+-- a line was taken, and what it leads to was written
+pub record TakesLine (A : Around) (p : Position) (l : Line) (s now : State) (place : Place) (before after_it : Option (List ℕ)) (outcome : Outcome) : Type 0 where
+  pub next : Position
+  pub after : State
+  pub is_at : IsAt next after now place
+  pub leads : LeadsOn A p l s next after before after_it outcome
   pub had : lines_had next ≤ lines_had p + 1

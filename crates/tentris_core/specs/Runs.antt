@@ -1,45 +1,48 @@
 -- What a run over a source and a sink did.
 use Rattle.std.specs.Prelude.{◌≡◌, ◌⊎◌, ℕ, ◌≤◌, ◌<◌, Bool, true, false, List, [], ◌∷◌, ◌++◌, length, take}
 use Rattle.std.specs.declared.option.Option.{Option}
-use Rattle.std.specs.List.{list_any}
 use Rattle.std.specs.Io.KnownBytes.{append_known, prepend_known, IsAtEnd}
 use Rattle.text_lines.specs.Lines.{lines_of, whole_lines_of}
 use Rattle.script_model.specs.Commands.{Command, commands_of, closed_commands_of}
-use Rattle.run_model.specs.Answers.{Answer, answer_text, text_of, is_refused}
+use Rattle.run_model.specs.Answers.{answer_text}
+use Rattle.run_model.specs.Steps.{commands_in, text_of, some_refused}
 use Rattle.graph_store.specs.State.{State}
-use Rattle.tentris_core.specs.Carrying.{CarriesAll}
+use Rattle.tentris_core.specs.Carrying.{Around, StoreEvent, events_in, RunsOver}
 use Rattle.tentris_core.specs.Puts.{IsPart}
 use Rattle.tentris_core.specs.declared.running.Status.{Status}
 use Rattle.tentris_core.specs.declared.running.Status.TheVariants.{Done, SomeRefused, BadWords, ReadFault, WriteFault, Memory, TooLong}
 
 -- The source was read to its end: all commands were carried out and answered. `refused` says whether one was refused.
-pub record RunsAll (max : ℕ) (refused : Bool) (s t : State) (left_before left_now written_before written_now : Option (List ℕ)) : Type 0 where
+pub record RunsAll (A : Around) (refused : Bool) (s t : State) (left_before left_now written_before written_now : Option (List ℕ)) : Type 0 where
   pub taken : List ℕ
-  pub answers : List Answer
+  pub trace : List StoreEvent
   pub read : left_before ≡ prepend_known taken left_now
   pub at_end : IsAtEnd left_now
-  pub within : length taken ≤ max
-  pub run : CarriesAll s (commands_of (lines_of taken)) t answers
-  pub wrote : written_now ≡ append_known written_before (text_of answers)
-  pub refusals : list_any is_refused answers ≡ refused
+  pub within : length taken ≤ A.most_bytes
+  pub runs : RunsOver A s trace t
+  pub commands : commands_in (events_in A trace) ≡ commands_of (lines_of taken)
+  pub wrote : written_now ≡ append_known written_before (text_of (events_in A trace))
+  pub refusals : some_refused (events_in A trace) ≡ refused
 
 -- A read failed: the commands that the bytes taken close were carried out and answered.
-pub record RunsTaken (max : ℕ) (s t : State) (left_before left_now written_before written_now : Option (List ℕ)) : Type 0 where
+pub record RunsTaken (A : Around) (s t : State) (left_before left_now written_before written_now : Option (List ℕ)) : Type 0 where
   pub taken : List ℕ
-  pub answers : List Answer
+  pub trace : List StoreEvent
   pub read : left_before ≡ prepend_known taken left_now
-  pub within : length taken ≤ max
-  pub run : CarriesAll s (closed_commands_of (whole_lines_of taken)) t answers
-  pub wrote : written_now ≡ append_known written_before (text_of answers)
+  pub within : length taken ≤ A.most_bytes
+  pub runs : RunsOver A s trace t
+  pub commands : commands_in (events_in A trace) ≡ closed_commands_of (whole_lines_of taken)
+  pub wrote : written_now ≡ append_known written_before (text_of (events_in A trace))
 
--- The source has more than max bytes: the commands that its first max bytes close were carried out and answered.
-pub record RunsFront (max : ℕ) (s t : State) (left_before left_now written_before written_now : Option (List ℕ)) : Type 0 where
+-- The source has more bytes than the script may have: the commands that its first bytes close were carried out and answered.
+pub record RunsFront (A : Around) (s t : State) (left_before left_now written_before written_now : Option (List ℕ)) : Type 0 where
   pub taken : List ℕ
-  pub answers : List Answer
+  pub trace : List StoreEvent
   pub read : left_before ≡ prepend_known taken left_now
-  pub over : max < length taken
-  pub run : CarriesAll s (closed_commands_of (whole_lines_of (take max taken))) t answers
-  pub wrote : written_now ≡ append_known written_before (text_of answers)
+  pub over : A.most_bytes < length taken
+  pub runs : RunsOver A s trace t
+  pub commands : commands_in (events_in A trace) ≡ closed_commands_of (whole_lines_of (take A.most_bytes taken))
+  pub wrote : written_now ≡ append_known written_before (text_of (events_in A trace))
 
 -- The commands that a run may have carried out when a write fails: some that the first max of the bytes taken close, or,
 -- where the source was read to its end, some of all.
@@ -49,15 +52,14 @@ AreAllowed max taken left commands =
     ⊎ (IsAtEnd left × (length taken ≤ max) × (more : List Command) × (commands_of (lines_of taken) ≡ commands ++ more))
 
 -- A write failed: each command but the last was answered whole, and of the last one's answer a front was written.
-pub record RunsCut (max : ℕ) (s t : State) (left_before left_now written_before written_now : Option (List ℕ)) : Type 0 where
+pub record RunsCut (A : Around) (s t : State) (left_before left_now written_before written_now : Option (List ℕ)) : Type 0 where
   pub taken : List ℕ
-  pub commands : List Command
-  pub front : List Answer
-  pub last : Answer
+  pub front : List StoreEvent
+  pub last : StoreEvent
   pub read : left_before ≡ prepend_known taken left_now
-  pub allowed : AreAllowed max taken left_now commands
-  pub run : CarriesAll s commands t (front ++ last ∷ [])
-  pub wrote : IsPart (append_known written_before (text_of front)) written_now (answer_text last)
+  pub allowed : AreAllowed A.most_bytes taken left_now (commands_in (events_in A (front ++ last ∷ [])))
+  pub runs : RunsOver A s (front ++ last ∷ []) t
+  pub wrote : IsPart (append_known written_before (text_of (events_in A front))) written_now (answer_text last.answer)
 
 -- nothing was read, written or changed
 pub record IsUntouched (s t : State) (left_before left_now written_before written_now : Option (List ℕ)) : Type 0 where
@@ -65,12 +67,12 @@ pub record IsUntouched (s t : State) (left_before left_now written_before writte
   pub unread : left_now ≡ left_before
   pub unwritten : written_now ≡ written_before
 
--- what each status says of a script of at most max bytes
-abbrev pub Ends : Status → ℕ → State → State → Option (List ℕ) → Option (List ℕ) → Option (List ℕ) → Option (List ℕ) → Type 0
-Ends Done max = RunsAll max false
-Ends SomeRefused max = RunsAll max true
-Ends BadWords max = IsUntouched
-Ends ReadFault max = RunsTaken max
-Ends WriteFault max = RunsCut max
-Ends Memory max = IsUntouched
-Ends TooLong max = RunsFront max
+-- what each status says of a run
+abbrev pub Ends : Status → Around → State → State → Option (List ℕ) → Option (List ℕ) → Option (List ℕ) → Option (List ℕ) → Type 0
+Ends Done A = RunsAll A false
+Ends SomeRefused A = RunsAll A true
+Ends BadWords A = IsUntouched
+Ends ReadFault A = RunsTaken A
+Ends WriteFault A = RunsCut A
+Ends Memory A = IsUntouched
+Ends TooLong A = RunsFront A

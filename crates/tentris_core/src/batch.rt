@@ -1,12 +1,12 @@
-//! What the lines of a block say: triples that are staged or marked in the store, until the block ends.
+//! What lines say: triples that are staged or marked in the store, until the last of them has come.
 ghost use Rattle.std.specs.Prelude.{◌≡◌, ◌≤◌, ◌+◌, ◌∷◌, [], ◌++◌, List, length, Some, IfSome, MatchOption};
-ghost use Rattle.text_lines.specs.Lines.{Line};
+ghost use Rattle.run_model.specs.Sayings.{Saying, says};
 ghost use Rattle.script_model.specs.Commands as script;
 ghost use Rattle.graph_store.specs.State.{State};
 ghost use Rattle.graph_store.specs.Staging.{Fits, before};
-ghost use Rattle.tentris_core.specs.Carrying.{IsSound, Carries};
+ghost use Rattle.tentris_core.specs.Carrying.{IsSound};
 ghost use Rattle.tentris_core.specs.Seen.{answer_of};
-ghost use Rattle.tentris_core.specs.Batches.{lent_line, IsBatch, IsCause, IsReady, AreStaged, AreToGo};
+ghost use Rattle.tentris_core.specs.Batches.{lent_line, IsBatch, IsCause, IsReady, AreStaged, AreToGo, ChangesStore};
 ghost use Rattle.tentris_core.specs.declared.batch.Batch.TheVariants.{Inserts, Deletes};
 
 use crate::answer::Answer;
@@ -19,13 +19,13 @@ use std::alloc::Global;
 use std::sync::ledger::Ledger;
 use trie_depth::Mix;
 
-/// What the lines of a block say so far. It must be spent, by `carry_out` or `abandon`.
+/// What lines say so far. It must be spent, by `carry_out` or `abandon`.
 pub enum Batch {
     /// Triples that are staged.
     Inserts(Staged),
     /// Triples that are marked.
     Deletes(Taken),
-    /// A line can't be carried out, and so the block can't be.
+    /// A line can't be carried out, and so none of them is.
     Refused(Refusal),
 }
 
@@ -41,8 +41,8 @@ fn stage<M: Mix>(
     requires fits { Fits store.old staged.old }
     ensures fits { Fits store.new staged.new }
     ensures before { before store.new staged.new ≡ before store.old staged.old }
-    ensures line { (s : State) (body : List Line) → number ≡ length body + 1 → AreStaged s body store.old staged.old
-        → MatchOption result (AreStaged s (body ++ Some line.now ∷ []) store.new staged.new) (IsCause s script.Inserts (body ++ Some line.now ∷ [])) }
+    ensures line { (s : State) (said : List Saying) → number ≡ length said + 1 → AreStaged s said store.old staged.old
+        → MatchOption result (AreStaged s (said ++ says [] (Some line.now) ∷ []) store.new staged.new) (IsCause s script.Inserts (said ++ says [] (Some line.now) ∷ [])) }
 {
     match read_line(line, "", scratch) {
         Ok(None) => {
@@ -70,8 +70,8 @@ fn mark<M: Mix>(
     scratch: &mut Scratch,
 ) -> Option<Refusal>
     requires short { length line.now ≤ 1048576 }
-    ensures line { (body : List Line) → number ≡ length body + 1 → AreToGo store.now body taken.old
-        → MatchOption result (AreToGo store.now (body ++ Some line.now ∷ []) taken.new) (IsCause store.now script.Deletes (body ++ Some line.now ∷ [])) }
+    ensures line { (said : List Saying) → number ≡ length said + 1 → AreToGo store.now said taken.old
+        → MatchOption result (AreToGo store.now (said ++ says [] (Some line.now) ∷ []) taken.new) (IsCause store.now script.Deletes (said ++ says [] (Some line.now) ∷ [])) }
 {
     match read_line(line, "", scratch) {
         Ok(None) => None,
@@ -93,8 +93,8 @@ fn insert_line<M: Mix>(
 ) -> Batch
     requires short { IfSome line (λ l. length l.now ≤ 1048576) }
     requires fits { Fits store.old staged }
-    ensures { (s : State) (body : List Line) → number ≡ length body + 1 → AreStaged s body store.old staged
-        → IsBatch s script.Inserts (body ++ lent_line line.entry ∷ []) store.new result }
+    ensures { (s : State) (said : List Saying) → number ≡ length said + 1 → AreStaged s said store.old staged
+        → IsBatch s script.Inserts (said ++ says [] (lent_line line.entry) ∷ []) store.new result }
 {
     let Some(line) = line else {
         store.abandon(staged);
@@ -118,8 +118,8 @@ fn delete_line<M: Mix>(
     scratch: &mut Scratch,
 ) -> Batch
     requires short { IfSome line (λ l. length l.now ≤ 1048576) }
-    ensures { (body : List Line) → number ≡ length body + 1 → AreToGo store.now body taken
-        → IsBatch store.now script.Deletes (body ++ lent_line line.entry ∷ []) store.now result }
+    ensures { (said : List Saying) → number ≡ length said + 1 → AreToGo store.now said taken
+        → IsBatch store.now script.Deletes (said ++ says [] (lent_line line.entry) ∷ []) store.now result }
 {
     let Some(line) = line else {
         return Batch::Refused(Refusal::Line(number));
@@ -141,8 +141,8 @@ impl Batch {
     ) -> Batch
         requires short { IfSome line (λ l. length l.now ≤ 1048576) }
         requires ready { IsReady store.old self }
-        ensures { (s : State) (change : script.Change) (body : List Line) → number ≡ length body + 1 → IsBatch s change body store.old self
-            → IsBatch s change (body ++ lent_line line.entry ∷ []) store.new result }
+        ensures { (s : State) (change : script.Change) (said : List Saying) → number ≡ length said + 1 → IsBatch s change said store.old self
+            → IsBatch s change (said ++ says [] (lent_line line.entry) ∷ []) store.new result }
     {
         match self {
             Batch::Inserts(staged) => insert_line(store, staged, line, number, scratch),
@@ -159,8 +159,8 @@ impl Batch {
         counts: &mut Counts<W, V>,
     ) -> Answer
         requires ready { IsReady store.old self }
-        ensures { (s : State) (change : script.Change) (body : List Line) → IsSound s → IsBatch s change body store.old self
-            → Carries s (script.Block change body) store.new (answer_of result) }
+        ensures { (s : State) (change : script.Change) (said : List Saying) → IsSound s → IsBatch s change said store.old self
+            → ChangesStore s change said store.new (answer_of result) }
     {
         match self {
             Batch::Inserts(staged) => put_in(alloc, store, staged, counts),
@@ -169,10 +169,10 @@ impl Batch {
         }
     }
 
-    /// Leaves the store as it was before the block.
+    /// Leaves the store as it was before the first line.
     pub(crate) fn abandon<M: Mix>(self, store: &mut Store<M>)
         requires ready { IsReady store.old self }
-        ensures { (s : State) (change : script.Change) (body : List Line) → IsBatch s change body store.old self → store.new ≡ s }
+        ensures { (s : State) (change : script.Change) (said : List Saying) → IsBatch s change said store.old self → store.new ≡ s }
     {
         match self {
             Batch::Inserts(staged) => store.abandon(staged),
@@ -189,8 +189,8 @@ fn put_in<M: Mix, W: Ledger, V: Ledger>(
     counts: &mut Counts<W, V>,
 ) -> Answer
     requires fits { Fits store.old staged }
-    ensures { (s : State) (body : List Line) → IsSound s → AreStaged s body store.old staged
-        → Carries s (script.Block script.Inserts body) store.new (answer_of result) }
+    ensures { (s : State) (said : List Saying) → IsSound s → AreStaged s said store.old staged
+        → ChangesStore s script.Inserts said store.new (answer_of result) }
 {
     let inserted = store.insert(alloc, staged, &mut counts.interns, &mut counts.retains);
     // This call tells the proof that the tables are the shape of the graph.
@@ -209,8 +209,8 @@ fn take_out<M: Mix, W: Ledger, V: Ledger>(
     counts: &mut Counts<W, V>,
 ) -> Answer
     requires ready { IsReady store.old (Deletes taken) }
-    ensures { (body : List Line) → IsSound store.old → AreToGo store.old body taken
-        → Carries store.old (script.Block script.Deletes body) store.new (answer_of result) }
+    ensures { (said : List Saying) → IsSound store.old → AreToGo store.old said taken
+        → ChangesStore store.old script.Deletes said store.new (answer_of result) }
 {
     let deleted = store.delete(alloc, taken, &mut counts.interns, &mut counts.retains);
     // This call tells the proof that the tables are the shape of the graph.

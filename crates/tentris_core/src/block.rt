@@ -1,24 +1,28 @@
 //! The lines of blocks, and the commands that lines outside blocks give.
 //!
 //! A block's lines are judged as they come; the graph is changed once, where the block ends.
-ghost use Rattle.std.specs.Prelude.{◌≡◌, ◌≤◌, ◌+◌, ◌<◌, ◌-◌, ◌^◌, ◌++◌, ◌∷◌, [], List, length, IfSome};
+ghost use Rattle.std.specs.Prelude.{◌≡◌, ◌≤◌, ◌+◌, ◌<◌, ◌-◌, ◌^◌, ◌++◌, ◌∷◌, [], List, length, IfSome, None};
 ghost use Rattle.text_lines.specs.Lines.{Line};
 ghost use Rattle.script_model.specs.Commands as script;
 ghost use Rattle.graph_store.specs.State.{State};
 ghost use Rattle.tentris_core.specs.Seen.{answer_of};
 ghost use Rattle.tentris_core.specs.Batches.{lent_line, IsReady};
-ghost use Rattle.tentris_core.specs.Carrying.{IsSound, Carries};
-ghost use Rattle.tentris_core.specs.Places.{IsBlock, IsAt, IsReadyAt, TakesLine, Position, Outside, Inside, lines_in};
+ghost use Rattle.tentris_core.specs.Carrying.{Around, IsSound, Carries};
+ghost use Rattle.tentris_core.specs.Places.{IsBlock, IsAt, IsReadyAt, MeetsLine, TakesLine, Position, Outside, Inside, lines_in};
+ghost use Rattle.tentris_core.specs.Puts.{IsPassedOn, HasOutcome};
+ghost use Rattle.tentris_core.specs.Seen.{Tells};
 
 use crate::answer::Answer;
 use crate::batch::Batch;
 use crate::counts::Counts;
+use crate::outcome::{Outcome, pass_on};
 use answer_text::Refusal;
 use graph_store::{Staged, Store, Taken};
 use rdf_term::Scratch;
 use script_read::{Command, command, skipped};
 use std::alloc::Global;
 use std::sync::ledger::Ledger;
+use tn_io::{Out, Sink};
 use trie_depth::Mix;
 
 // The line that ends a block.
@@ -77,7 +81,7 @@ impl Place {
 
 // Answers the lines of the graph.
 fn dump<M: Mix>(alloc: Global, store: &Store<M>) -> Answer
-    ensures { IsSound store.now → Carries store.now script.Dump store.now (answer_of result) }
+    ensures { (A : Around) → IsSound store.now → Carries A store.now (script.Single script.Dump) store.now (answer_of result) None }
 {
     match store.dump(alloc) {
         Ok(lines) => Answer::Dumped(lines),
@@ -87,7 +91,7 @@ fn dump<M: Mix>(alloc: Global, store: &Store<M>) -> Answer
 
 // Answers the lines of the graph's shape.
 fn shape<M: Mix>(alloc: Global, store: &Store<M>) -> Answer
-    ensures { IsSound store.now → Carries store.now script.Shape store.now (answer_of result) }
+    ensures { (A : Around) → IsSound store.now → Carries A store.now (script.Single script.Shape) store.now (answer_of result) None }
 {
     match store.shape(alloc) {
         Ok(lines) => Answer::Shaped(lines),
@@ -98,7 +102,7 @@ fn shape<M: Mix>(alloc: Global, store: &Store<M>) -> Answer
 // Answers the figures of the graph.
 fn stats<M: Mix>(store: &Store<M>) -> Answer
     requires { IsSound store.now }
-    ensures { Carries store.now script.Stats store.now (answer_of result) }
+    ensures { (A : Around) → Carries A store.now (script.Single script.Stats) store.now (answer_of result) None }
 {
     Answer::Counted(store.stats())
 }
@@ -106,7 +110,7 @@ fn stats<M: Mix>(store: &Store<M>) -> Answer
 // Takes a line outside a block.
 fn outside<M: Mix>(alloc: Global, store: &Store<M>, line: Option<&[u8]>) -> (Place, Option<Answer>)
     requires { IsSound store.now }
-    ensures { TakesLine Outside (lent_line line.entry) store.now store.now result.0 result.1 }
+    ensures { (A : Around) → MeetsLine A Outside (lent_line line.entry) store.now store.now result.0 result.1 }
 {
     let Some(bytes) = line else {
         return (Place::Outside, Some(Answer::Refused(Refusal::Command)));
@@ -127,7 +131,7 @@ fn outside<M: Mix>(alloc: Global, store: &Store<M>, line: Option<&[u8]>) -> (Pla
 // A block of triples that are put in, without a line yet.
 fn begin_insert<M: Mix>(alloc: Global, store: &Store<M>) -> Place
     requires { IsSound store.now }
-    ensures { IsAt (Inside script.Inserts []) store.now store.now result }
+    ensures { IsAt (Inside (script.Triples script.Inserts) []) store.now store.now result }
 {
     // This call tells the proof how many triples there are at most.
     store.triples();
@@ -139,7 +143,7 @@ fn begin_insert<M: Mix>(alloc: Global, store: &Store<M>) -> Place
 
 // A block of triples that are taken out, without a line yet.
 fn begin_delete(alloc: Global) -> Place
-    ensures { (s : State) → IsAt (Inside script.Deletes []) s s result }
+    ensures { (s : State) → IsAt (Inside (script.Triples script.Deletes) []) s s result }
 {
     Place::Inside(Block {
         lines: 0,
@@ -169,8 +173,8 @@ fn inside<M: Mix, W: Ledger, V: Ledger>(
     requires short { IfSome line (λ l. length l.now ≤ 1048576) }
     requires room { block.lines < 2 ^ 64 - 1 }
     requires ready { IsReady store.old block.batch }
-    ensures { (s : State) (change : script.Change) (body : List Line) → IsSound s → IsBlock s change body store.old block
-        → TakesLine (Inside change body) (lent_line line.entry) s store.new result.0 result.1 }
+    ensures { (A : Around) (s : State) (change : script.Change) (body : List Line) → IsSound s → IsBlock s change body store.old block
+        → MeetsLine A (Inside (script.Triples change) body) (lent_line line.entry) s store.new result.0 result.1 }
 {
     if ends(line) {
         let Block { lines: _, batch } = block;
@@ -180,22 +184,48 @@ fn inside<M: Mix, W: Ledger, V: Ledger>(
     (Place::Inside(block.with_line(store, line, scratch)), None)
 }
 
-/// Takes a line, and answers the command that it ends.
-pub fn take_line<M: Mix, W: Ledger, V: Ledger>(
+// Passes an answer on, if there is one.
+fn tell<K: Sink>(out: &mut Out<'_, K>, answer: Option<Answer>) -> Outcome
+    requires empty { out.old.buffer ≡ [] }
+    ensures same_sink { out.new.sink.ghost_name ≡ out.old.sink.ghost_name }
+    ensures text { Tells (K.written out.old.sink.now) (K.written out.new.sink.now) result answer }
+    ensures empty { IsPassedOn result out.new }
+    ensures cause { HasOutcome (K.faults out.old.sink.now) (K.faults out.new.sink.now) result }
+{
+    match answer {
+        Some(answer) => pass_on(out, &answer),
+        None => Outcome::GoesOn,
+    }
+}
+
+/// Takes a line, and passes on the answer of the command that it ends.
+pub fn take_line<M: Mix, K: Sink, W: Ledger, V: Ledger>(
     alloc: Global,
     store: &mut Store<M>,
     place: Place,
     line: Option<&[u8]>,
     scratch: &mut Scratch,
     counts: &mut Counts<W, V>,
-) -> (Place, Option<Answer>)
+    out: &mut Out<'_, K>,
+) -> (Place, Outcome)
     requires short { IfSome line (λ l. length l.now ≤ 1048576) }
     requires room { lines_in place < 2 ^ 64 - 1 }
     requires ready { IsReadyAt store.old place }
-    ensures { (p : Position) (s : State) → IsSound s → IsAt p s store.old place → TakesLine p (lent_line line.entry) s store.new result.0 result.1 }
+    requires empty { out.old.buffer ≡ [] }
+    ensures same_sink { out.new.sink.ghost_name ≡ out.old.sink.ghost_name }
+    ensures takes { (A : Around) (p : Position) (s : State) → IsSound s → IsAt p s store.old place
+        → TakesLine A p (lent_line line.entry) s store.new result.0 (K.written out.old.sink.now) (K.written out.new.sink.now) result.1 }
+    ensures empty { IsPassedOn result.1 out.new }
+    ensures cause { HasOutcome (K.faults out.old.sink.now) (K.faults out.new.sink.now) result.1 }
 {
     match place {
-        Place::Outside => outside(alloc, store, line),
-        Place::Inside(block) => inside(alloc, store, block, line, scratch, counts),
+        Place::Outside => {
+            let (next, answer) = outside(alloc, store, line);
+            (next, tell(out, answer))
+        }
+        Place::Inside(block) => {
+            let (next, answer) = inside(alloc, store, block, line, scratch, counts);
+            (next, tell(out, answer))
+        }
     }
 }

@@ -5,6 +5,7 @@ mod answer;
 mod batch;
 mod block;
 mod counts;
+mod outcome;
 mod running;
 
 pub use answer::Answer;

@@ -5,15 +5,12 @@
 ghost use Rattle.std.specs.Prelude.{◌≡◌, ◌≤◌, ◌<◌, [], length, IfSome, ◌↔◌, ◌≢◌};
 ghost use Rattle.tn_io.specs.Causes.{Rose};
 ghost use Rattle.tn_io.specs.CutterState.{line_told};
-ghost use Rattle.run_model.specs.Answers.{answer_text, is_refused};
-ghost use Rattle.tentris_core.specs.Seen.{answer_of};
 ghost use Rattle.tentris_core.specs.Batches.{lent_line};
 ghost use Rattle.tentris_core.specs.Places.{Position, IsAt, IsReadyAt};
-ghost use Rattle.tentris_core.specs.Carrying.{IsSound};
+ghost use Rattle.tentris_core.specs.Carrying.{IsSound, alone};
 ghost use Rattle.graph_store.specs.State.{State, IsSettled};
 ghost use Rattle.graph_store.specs.Stands.{Stands};
 ghost use Rattle.trie_context.specs.Kept.{AreKept};
-ghost use Rattle.tentris_core.specs.Puts.{PassesOn};
 ghost use Rattle.tentris_core.specs.Runs.{Ends};
 ghost use Rattle.tentris_core.specs.Endings.{Finishes};
 ghost use Rattle.script_read.specs.ScriptState.{at_start};
@@ -21,6 +18,7 @@ ghost use Rattle.script_read.specs.ScriptState.{at_start};
 use crate::answer::Answer;
 use crate::block::{Block, Place, take_line};
 use crate::counts::Counts;
+use crate::outcome::{Outcome, pass_on};
 use answer_text::Refusal;
 use graph_store::Store;
 use rdf_term::Scratch;
@@ -28,7 +26,7 @@ use script_read::{Script, ScriptFault};
 use std::alloc::Global;
 use std::marker::Brand;
 use std::sync::ledger::{Blank, Ledger};
-use tn_io::{Cut, Failed, Out, Sink, Source};
+use tn_io::{Cut, Out, Sink, Source};
 use trie_depth::{Mix, Steps};
 
 /// The greatest number of bytes of a script.
@@ -72,16 +70,6 @@ impl Status {
     }
 }
 
-// Passes an answer on whole.
-fn pass_on<K: Sink>(out: &mut Out<'_, K>, answer: &Answer) -> Result<(), Failed>
-    requires { out.old.buffer ≡ [] }
-    ensures same_sink { out.new.sink.ghost_name ≡ out.old.sink.ghost_name }
-    ensures text { PassesOn K.written K.faults out.old out.new result (answer_text (answer_of answer.now)) }
-{
-    answer.put(out)?;
-    out.flush()
-}
-
 // The line that a cut told.
 fn told_line(cut: Cut, script: &Script) -> Option<&[u8]>
     ensures line { lent_line result ≡ line_told cut script.now.cutter }
@@ -91,12 +79,6 @@ fn told_line(cut: Cut, script: &Script) -> Option<&[u8]>
         Cut::Whole => Some(script.line()),
         Cut::TooLong => None,
     }
-}
-
-fn is_refusal(answer: &Answer) -> bool
-    ensures { result ≡ is_refused (answer_of answer.now) }
-{
-    matches!(answer, Answer::Refused(_))
 }
 
 // The script has ended: a block without its end is refused.
@@ -127,8 +109,8 @@ fn finish<M: Mix, K: Sink>(
             batch.abandon(store);
             let answer = Answer::Refused(Refusal::Unended);
             match pass_on(out, &answer) {
-                Ok(()) => Status::SomeRefused,
-                Err(_) => Status::WriteFault,
+                Outcome::Cut => Status::WriteFault,
+                Outcome::GoesOn | Outcome::Answered(_) => Status::SomeRefused,
             }
         }
     }
@@ -148,7 +130,7 @@ fn carry_out<M: Mix, S: Source, K: Sink, W: Ledger, V: Ledger>(
     requires sound { IsSound store.old }
     requires empty { out.old.buffer ≡ [] }
     ensures same_sink { out.new.sink.ghost_name ≡ out.old.sink.ghost_name }
-    ensures ends { Ends result MAX_BYTES store.old store.new (S.left source.old) (S.left source.new) (K.written out.old.sink.now) (K.written out.new.sink.now) }
+    ensures ends { Ends result (alone MAX_BYTES) store.old store.new (S.left source.old) (S.left source.new) (K.written out.old.sink.now) (K.written out.new.sink.now) }
     ensures sound { IsSound store.new }
     ensures accepted { result ≢ Status.BadWords }
     ensures later_read { S.faults source.old ≤ S.faults source.new }
@@ -172,14 +154,15 @@ fn carry_out<M: Mix, S: Source, K: Sink, W: Ledger, V: Ledger>(
             }
         };
         let line = told_line(cut, script);
-        let (next, answer) = take_line(alloc, store, place, line, scratch, counts);
+        let (next, outcome) = take_line(alloc, store, place, line, scratch, counts, out);
         place = next;
-        if let Some(answer) = answer {
-            refused = refused || is_refusal(&answer);
-            let Ok(()) = pass_on(out, &answer) else {
+        match outcome {
+            Outcome::GoesOn => {}
+            Outcome::Answered(refusal) => refused |= refusal,
+            Outcome::Cut => {
                 place.abandon(store);
                 return Status::WriteFault;
-            };
+            }
         }
     }
 }
@@ -200,7 +183,7 @@ fn run_script<M: Mix, S: Source, K: Sink, W: Ledger, V: Ledger>(
     requires other_name { retains.name ≡ V.name }
     requires other_parts { retains.parts ≡ V.parts }
     requires other_whole { 0 < V.parts }
-    ensures ends { Ends result MAX_BYTES store.old store.new (S.left source.old) (S.left source.new) (K.written sink.old) (K.written sink.new) }
+    ensures ends { Ends result (alone MAX_BYTES) store.old store.new (S.left source.old) (S.left source.new) (K.written sink.old) (K.written sink.new) }
     ensures sound { IsSound store.new }
     ensures accepted { result ≢ Status.BadWords }
     ensures later_read { S.faults source.old ≤ S.faults source.new }
@@ -243,7 +226,7 @@ pub fn run<M: Mix, S: Source, K: Sink>(
     sink: &mut K,
 ) -> Status
     requires settled { IsSettled store.old }
-    ensures ends { Ends result MAX_BYTES store.old store.new (S.left source.old) (S.left source.new) (K.written sink.old) (K.written sink.new) }
+    ensures ends { Ends result (alone MAX_BYTES) store.old store.new (S.left source.old) (S.left source.new) (K.written sink.old) (K.written sink.new) }
     ensures settled { IsSettled store.new }
     ensures stands { Stands store.new }
     ensures kept { AreKept M.mixed store.new.tables }

@@ -1,8 +1,10 @@
-use Rattle.std.proofs.Common.{rules, arith, ◌∙◌, refl, ap}
+use Rattle.std.proofs.Common.{rules, arith, ◌∙◌, refl, sym, ap, subst}
 use Rattle.std.specs.Prelude.{Ok, Err}
-use Rattle.tentris_core.proofs.RunLemmas.{run_starts, run_finishes, run_fails, run_too_long, run_line, run_answer, run_cut, next_at, takes_at, or_then, or_else, ends_in, taken_in, front_in, cut_in}
+use Rattle.tentris_core.specs.Puts.{IsPassedOn}
+use Rattle.tentris_core.specs.Carrying.{IsSound, alone}
+use Rattle.tentris_core.specs.declared.running.TheConstants.{MAX_BYTES}
+use Rattle.tentris_core.proofs.RunLemmas.{ready, run_starts, run_finishes, run_fails, run_too_long, run_line, run_answered, run_cut_off, next_at, takes_at, ends_in, taken_in, front_in, cut_in}
 use Rattle.tentris_core.proofs.running.carry_out.Goals as goal
-use Rattle.tentris_core.proofs.running.carry_out.Goals.{then-refused, else-refused}
 
 pub lines-init : goal.lines-init
 lines-init g c = record {
@@ -29,56 +31,40 @@ returns-in-Err-TooLong-clause-ends g c =
     front_in (c.abandon-in-Err-TooLong.ensures _ _ c.lines.invariant.ran.is_at)
     (run_too_long _ _ _ _ _ _ _ _ _ _ c.lines.invariant.ran _ _ (next_at _ _ (c.in-Err-TooLong.is ∙ ap Err c.in-Err-TooLong.field-0-is) c.next_line.ensures.next))
 
-pub returns-in_default-pass_on-clause-ends : goal.returns-in_default-pass_on-clause-ends
-returns-in_default-pass_on-clause-ends g c =
-    let taken = takes_at _ _ _ _ c.told_line-line.ensures.line c.in-Some.is (c.take_line-next.ensures _ _ c.lines.invariant.ran.sound c.lines.invariant.ran.is_at) in
-    cut_in (c.abandon-in_default-pass_on.ensures _ _ taken.is_at)
-    (run_cut _ _ _ _ _ _ _ _ _ _ c.lines.invariant.ran _ _ c.in-Ok-Some.cut (next_at _ _ (c.in-Ok-Some.is ∙ ap Ok c.in-Ok-Some.field-0-is) c.next_line.ensures.next) _ _ c.in-Some.answer
-    taken _ c.in_default-pass_on.ensures.text.cut)
+pub abandon-requires-in-Cut : goal.abandon-requires-in-Cut
+abandon-requires-in-Cut g c =
+    let taken = takes_at _ _ _ _ c.told_line-line.ensures.line c.in-Cut.is (c.take_line-next.ensures.takes (alone MAX_BYTES) _ _ c.lines.invariant.ran.sound c.lines.invariant.ran.is_at) in
+    record { ready = ready _ _ _ _ taken.leads.0.carries.sound taken.is_at }
 
-pub lines-preserved-in-Ok : goal.lines-preserved-in-Ok
-lines-preserved-in-Ok g c = record {
-  same_sink = c.pass_on.ensures.same_sink ∙ c.lines.invariant.same_sink;
-  empty = c.in-Ok.ensures.text.whole.1;
-  ran =
-      run_answer _ _ _ _ _ _ _ _ _ _ c.lines.invariant.ran _ _ c.in-Ok-Some.cut (next_at _ _ (c.in-Ok-Some.is ∙ ap Ok c.in-Ok-Some.field-0-is) c.next_line.ensures.next) _ _ c.in-Some.answer
-      (takes_at _ _ _ _ c.told_line-line.ensures.line c.in-Some.is (c.take_line-next.ensures _ _ c.lines.invariant.ran.sound c.lines.invariant.ran.is_at)) _ _ c.in-Ok.ensures.text.whole.0
-      (elim c.if-refused.branch [ then-refused w ↦ w.refused-is ∙ w.if-refused.true ∙ or_then _ _ w.if-refused.true | else-refused w ↦ w.refused-is ∙ w.is_refusal-refused.ensures ∙ or_else _ _ w.if-refused.false ]);
-  read_faults = search rules;
-  write_faults = omega (arith, c.in-Ok.ensures.text.cause.later, c.lines.invariant.write_faults);
-}
+pub returns-in-Cut-clause-sound : goal.returns-in-Cut-clause-sound
+returns-in-Cut-clause-sound g c =
+    let taken = takes_at _ _ _ _ c.told_line-line.ensures.line c.in-Cut.is (c.take_line-next.ensures.takes (alone MAX_BYTES) _ _ c.lines.invariant.ran.sound c.lines.invariant.ran.is_at) in
+    subst IsSound (sym (c.abandon-in-Cut.ensures _ _ taken.is_at)) taken.leads.0.carries.sound
 
-pub lines-preserved-in-Ok-2 : goal.lines-preserved-in-Ok-2
-lines-preserved-in-Ok-2 g c = record {
-  same_sink = c.pass_on.ensures.same_sink ∙ c.lines.invariant.same_sink;
-  empty = c.in-Ok.ensures.text.whole.1;
+pub lines-preserved-in-GoesOn : goal.lines-preserved-in-GoesOn
+lines-preserved-in-GoesOn g c = record {
+  same_sink = c.take_line-next.ensures.same_sink ∙ c.lines.invariant.same_sink;
+  empty = subst (λ o. IsPassedOn o c.take_line-next.new.out) c.in-GoesOn.is c.take_line-next.ensures.empty;
   ran =
-      run_answer _ _ _ _ _ _ _ _ _ _ c.lines.invariant.ran _ _ c.in-Ok-Some.cut (next_at _ _ (c.in-Ok-Some.is ∙ ap Ok c.in-Ok-Some.field-0-is) c.next_line.ensures.next) _ _ c.in-Some.answer
-      (takes_at _ _ _ _ c.told_line-line.ensures.line c.in-Some.is (c.take_line-next.ensures _ _ c.lines.invariant.ran.sound c.lines.invariant.ran.is_at)) _ _ c.in-Ok.ensures.text.whole.0
-      (elim c.if-refused.branch [ then-refused w ↦ w.refused-is ∙ w.if-refused.true ∙ or_then _ _ w.if-refused.true | else-refused w ↦ w.refused-is ∙ w.is_refusal-refused.ensures ∙ or_else _ _ w.if-refused.false ]);
+      run_line _ _ _ _ _ _ _ _ _ _ c.lines.invariant.ran _ _ c.in-Ok-Some.cut (next_at _ _ (c.in-Ok-Some.is ∙ ap Ok c.in-Ok-Some.field-0-is) c.next_line.ensures.next) _ _ _
+      (takes_at _ _ _ _ c.told_line-line.ensures.line c.in-GoesOn.is (c.take_line-next.ensures.takes _ _ _ c.lines.invariant.ran.sound c.lines.invariant.ran.is_at));
   read_faults = search rules;
-  write_faults = omega (arith, c.in-Ok.ensures.text.cause.later, c.lines.invariant.write_faults);
-}
-
-pub lines-preserved-in-Ok-3 : goal.lines-preserved-in-Ok-3
-lines-preserved-in-Ok-3 g c = record {
-  same_sink = c.pass_on.ensures.same_sink ∙ c.lines.invariant.same_sink;
-  empty = c.in-Ok.ensures.text.whole.1;
-  ran =
-      run_answer _ _ _ _ _ _ _ _ _ _ c.lines.invariant.ran _ _ c.in-Ok-Some.cut (next_at _ _ (c.in-Ok-Some.is ∙ ap Ok c.in-Ok-Some.field-0-is) c.next_line.ensures.next) _ _ c.in-Some.answer
-      (takes_at _ _ _ _ c.told_line-line.ensures.line c.in-Some.is (c.take_line-next.ensures _ _ c.lines.invariant.ran.sound c.lines.invariant.ran.is_at)) _ _ c.in-Ok.ensures.text.whole.0
-      (elim c.if-refused.branch [ then-refused w ↦ w.refused-is ∙ w.if-refused.true ∙ or_then _ _ w.if-refused.true | else-refused w ↦ w.refused-is ∙ w.is_refusal-refused.ensures ∙ or_else _ _ w.if-refused.false ]);
-  read_faults = search rules;
-  write_faults = omega (arith, c.in-Ok.ensures.text.cause.later, c.lines.invariant.write_faults);
+  write_faults = omega (arith, c.take_line-next.ensures.cause.later, c.lines.invariant.write_faults);
 }
 
 pub lines-preserved : goal.lines-preserved
 lines-preserved g c = record {
-  same_sink = c.lines.invariant.same_sink;
-  empty = c.lines.invariant.empty;
+  same_sink = c.take_line-next.ensures.same_sink ∙ c.lines.invariant.same_sink;
+  empty = subst (λ o. IsPassedOn o c.take_line-next.new.out) c.in-Answered.is c.take_line-next.ensures.empty;
   ran =
-      run_line _ _ _ _ _ _ _ _ _ _ c.lines.invariant.ran _ _ c.in-Ok-Some.cut (next_at _ _ (c.in-Ok-Some.is ∙ ap Ok c.in-Ok-Some.field-0-is) c.next_line.ensures.next) _ _
-      (takes_at _ _ _ _ c.told_line-line.ensures.line c.in_default.is (c.take_line-next.ensures _ _ c.lines.invariant.ran.sound c.lines.invariant.ran.is_at));
+      run_answered _ _ _ _ _ _ _ _ _ _ c.lines.invariant.ran _ _ c.in-Ok-Some.cut (next_at _ _ (c.in-Ok-Some.is ∙ ap Ok c.in-Ok-Some.field-0-is) c.next_line.ensures.next) _ _ _ _ c.in-Answered.refusal refl
+      (takes_at _ _ _ _ c.told_line-line.ensures.line c.in-Answered.is (c.take_line-next.ensures.takes _ _ _ c.lines.invariant.ran.sound c.lines.invariant.ran.is_at));
   read_faults = search rules;
-  write_faults = search rules;
+  write_faults = omega (arith, c.take_line-next.ensures.cause.later, c.lines.invariant.write_faults);
 }
+
+pub returns-in-Cut-clause-ends : goal.returns-in-Cut-clause-ends
+returns-in-Cut-clause-ends g c =
+    let taken = takes_at _ _ _ _ c.told_line-line.ensures.line c.in-Cut.is (c.take_line-next.ensures.takes _ _ _ c.lines.invariant.ran.sound c.lines.invariant.ran.is_at) in
+    cut_in (c.abandon-in-Cut.ensures _ _ taken.is_at)
+    (run_cut_off _ _ _ _ _ _ _ _ _ _ c.lines.invariant.ran _ _ c.in-Ok-Some.cut (next_at _ _ (c.in-Ok-Some.is ∙ ap Ok c.in-Ok-Some.field-0-is) c.next_line.ensures.next) _ _ _ taken)

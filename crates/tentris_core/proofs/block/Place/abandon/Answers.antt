@@ -6,4 +6,4 @@ use Rattle.tentris_core.proofs.block.Place.abandon.Goals as goal
 pub returns-in-Inside : goal.returns-in-Inside
 returns-in-Inside g c = λ p s at.
     let h = inside_at p s c.args.store.now c.in-Inside.block (subst (IsAt p s c.args.store.now) c.in-Inside.is at) in
-    c.abandon.ensures s h.change h.body h.is.batch
+    c.abandon.ensures s h.change _ h.is.batch

@@ -1,6 +1,7 @@
 //! The productions of a line (`ntriples_model`'s `specs/Line.antt`), from its front.
 ghost use Rattle.std.specs.Prelude.{◌≡◌, ◌+◌, ◌<◌, ◌≤◌, length, slice_index, sum_by, None, Some, MatchOption};
 ghost use Rattle.ntriples_model.specs.Line as line;
+ghost use Rattle.text_lines.specs.Blanks as blanks;
 ghost use Rattle.ntriples_model.specs.Line.{subject_at, predicate_at, literal_at, object_at, triple_at};
 ghost use Rattle.ntriples.specs.Places.{ReadsTerm, triple_at_places, AreWithin};
 
@@ -9,14 +10,14 @@ use crate::terminal::{iri, label, string, tag};
 use rdf_term::Scratch;
 
 fn is_blank(b: u8) -> bool
-    ensures { result ≡ line.is_blank b }
+    ensures { result ≡ blanks.is_blank b }
 {
     b == b' ' || b == b'\t'
 }
 
 /// What stands behind the blanks.
 pub(crate) fn after_blanks(bytes: &[u8]) -> &[u8]
-    ensures rest { result.now ≡ line.after_blanks bytes.now }
+    ensures rest { result.now ≡ blanks.after_blanks bytes.now }
     ensures within { length result.now ≤ length bytes.now }
 {
     for (i, b) in bytes.iter().enumerate() {

@@ -1,5 +1,5 @@
 use Rattle.std.proofs.Common.{◌≡◌, drop}
-use Rattle.ntriples_model.specs.Line.{after_blanks}
+use Rattle.text_lines.specs.Blanks.{after_blanks}
 use Rattle.ntriples.proofs.grammar.after_blanks.Given as goal
 
 abbrev pub invariant-loop-i : goal.invariant-loop-i

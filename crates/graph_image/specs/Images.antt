@@ -8,7 +8,7 @@ use Rattle.hypertrie_model.specs.IdSets.{IdSet}
 use Rattle.hypertrie_model.specs.Sets.{has}
 use Rattle.rdf_model.specs.Terms.{Term, Iri, Triple}
 use Rattle.rdf_model.specs.Graph.{Graph, term_cmp, triple_cmp}
-pub use Rattle.rdf_model.specs.GraphTerms.{terms_of}
+unfoldable pub use Rattle.rdf_model.specs.GraphTerms.{terms_of}
 use Rattle.set_image.specs.Images.{image}
 use Rattle.term_dict.specs.Dict.{Terms}
 

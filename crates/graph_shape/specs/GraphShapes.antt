@@ -8,7 +8,7 @@ use Rattle.hypertrie_model.specs.Shapes.{ShapeRow, row_cmp, two, one, shape}
 use Rattle.rdf_model.specs.Terms.{Text, Term, Triple}
 use Rattle.rdf_model.specs.Texts.{tsv}
 use Rattle.rdf_model.specs.Graph.{Graph, term_cmp}
-pub use Rattle.rdf_model.specs.GraphTerms.{terms_of}
+unfoldable pub use Rattle.rdf_model.specs.GraphTerms.{terms_of}
 use Rattle.set_image.specs.Images.{image}
 use Rattle.rdf_model.specs.Sorting.{sorted_texts}
 

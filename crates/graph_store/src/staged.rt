@@ -1,7 +1,7 @@
 //! Triples that are staged, and then put in together or abandoned.
 ghost use Rattle.std.specs.Prelude.{◌≡◌, ◌↔◌, ◌+◌, ◌*◌, ◌<◌, ◌≤◌, ◌||◌, true, IfOk, OnOk, OnErr, IsErrOf};
 ghost use Rattle.std.specs.FinSet as set;
-ghost use Rattle.ntriples.specs.Lent.{lent_triple};
+ghost use Rattle.rdf_term.specs.Seen.{lent_triple};
 ghost use Rattle.hypertrie_model.specs.Changes.{IsChange};
 ghost use Rattle.trie_context.specs.Roots.{root_set};
 ghost use Rattle.trie_context.specs.RootShape.{OnlyRootHeld};

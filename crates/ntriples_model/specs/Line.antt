@@ -1,7 +1,7 @@
 -- The lines of RDF 1.1 N-Triples (section 7), twice: by the productions, on a whole line and what it says, and as a function
 -- from the front of its bytes. Blanks may stand between any two terminals, and a comment behind the last one.
 -- `specs/Laws.antt` says that the two agree.
-use Rattle.std.specs.Prelude.{◌≡◌, ℕ, Bool, true, false, ◌||◌, List, [], ◌∷◌, ◌++◌, Option, Some, None, ◌==◌, if◌then◌else◌, slice_index, drop, codes, IsUtf8}
+use Rattle.std.specs.Prelude.{◌≡◌, ℕ, Bool, true, false, List, [], ◌∷◌, ◌++◌, Option, Some, None, ◌==◌, if◌then◌else◌, slice_index, drop, codes, IsUtf8}
 use Rattle.std.specs.List.{AllByRecursion}
 use Rattle.std.specs.Str.{is_utf8}
 use Rattle.text_lines.specs.Blanks.{is_blank, after_blanks}

@@ -4,7 +4,7 @@ ghost use Rattle.std.specs.FinMap as map;
 ghost use Rattle.std.specs.FinSet as set;
 ghost use Rattle.trie_context.specs.Rows.{no_tables};
 ghost use Rattle.trie_context.specs.Kept.{AreKept};
-ghost use Rattle.graph_store.specs.Proper.{AreProper};
+ghost use Rattle.ntriples_model.specs.Proper.{AreProper};
 ghost use Rattle.graph_store.specs.State.{graph, most_triples, IsSettled};
 ghost use Rattle.graph_store.specs.Stands.{Stands};
 

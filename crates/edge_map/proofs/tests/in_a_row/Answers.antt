@@ -1,4 +1,4 @@
-use Rattle.std.proofs.Common.{sym, subst, arith}
+use Rattle.std.proofs.Common.{◌+◌, sym, subst, arith}
 use Rattle.edge_map.specs.Entries.{KeysRise}
 use Rattle.edge_map.proofs.ChunkLemmas.{Below, rise_push, below_push}
 use Rattle.edge_map.proofs.tests.in_a_row.Goals as goal

@@ -35,8 +35,8 @@ use Rattle.set_image.specs.ImageLaws.{IsValue, is_image, image-image, image-same
 use Rattle.tuple_image.specs.TupleImages.{tuple_image, IsOver, IsOneToOneWhere, ReadsShape}
 use Rattle.tuple_image.specs.TupleLaws.{one_to_one}
 use Rattle.tuple_image.specs.RowImages.{over-shape, reads_shape}
-use Rattle.graph_shape.specs.Sorting.{AreMembersOf, in_order, sorted_texts}
-use Rattle.graph_shape.specs.MemberLaws.{members_in_order, members_image}
+use Rattle.rdf_model.specs.Sorting.{AreMembersOf, in_order, sorted_texts}
+use Rattle.rdf_model.specs.MemberLaws.{members_in_order, members_image}
 use Rattle.graph_shape.specs.GraphShapes.{GraphRow, tuple_of, tuples_of, member_text, row_line, has_line, line_rows, shape_lines}
 use Rattle.graph_image.specs.Images.{term_at, triple_at, graph_of, AreKnown}
 use Rattle.graph_image.specs.ImageLaws.{get_is, tuples_total, tuples_exact}

@@ -15,7 +15,7 @@ use Rattle.trie_context.specs.declared.tables.Tables.{Tables}
 use Rattle.trie_context.specs.Rows.{row_of, set_of}
 use Rattle.trie_context.specs.Holds.{count_of}
 use Rattle.tuple_image.specs.TupleImages.{tuple_image}
-use Rattle.graph_shape.specs.Sorting.{AreMembersOf}
+use Rattle.rdf_model.specs.Sorting.{AreMembersOf}
 use Rattle.graph_shape.specs.GraphShapes.{GraphRow, member_text, row_line}
 use Rattle.graph_image.specs.Images.{term_at}
 

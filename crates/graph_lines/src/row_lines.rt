@@ -1,6 +1,6 @@
 //! The rows of the tables as lines: how many slices each is, and its members.
 ghost use Rattle.std.specs.Prelude.{◌≡◌, ℕ, ◌<◌, ◌≤◌, ◌++◌, codes, decimal, None, IsSome, IsNone, IfSome, IfOk, OnOk};
-ghost use Rattle.graph_shape.specs.Sorting.{in_order};
+ghost use Rattle.rdf_model.specs.Sorting.{in_order};
 ghost use Rattle.graph_shape.specs.GraphShapes.{depth_name, tabbed, row_line};
 ghost use Rattle.trie_context.specs.Rows.{row_of, rows_at, set_of};
 ghost use Rattle.trie_context.specs.Holds.{count_of};

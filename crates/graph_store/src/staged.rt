@@ -1,11 +1,11 @@
 //! Triples that are staged, and then put in together or abandoned.
 ghost use Rattle.std.specs.Prelude.{◌≡◌, ◌↔◌, ◌+◌, ◌*◌, ◌<◌, ◌≤◌, ◌||◌, true, IfOk, OnOk, OnErr, IsErrOf};
 ghost use Rattle.std.specs.FinSet as set;
-ghost use Rattle.ntriples.specs.Lent.{lent_triple};
+ghost use Rattle.rdf_term.specs.Seen.{lent_triple};
 ghost use Rattle.hypertrie_model.specs.Changes.{IsChange};
 ghost use Rattle.trie_context.specs.Roots.{root_set};
 ghost use Rattle.trie_context.specs.RootShape.{OnlyRootHeld};
-ghost use Rattle.graph_store.specs.Proper.{IsProperTriple};
+ghost use Rattle.ntriples_model.specs.Proper.{IsProperTriple};
 ghost use Rattle.graph_store.specs.State.{graph, most_triples, IsSettled};
 ghost use Rattle.graph_store.specs.Staging.{nothing_staged, staged_graph, with_new, Fits, before, IsFull};
 ghost use Rattle.graph_store.specs.declared.staged.StageFault.TheVariants as fault;

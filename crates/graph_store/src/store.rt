@@ -5,9 +5,9 @@ ghost use Rattle.std.specs.FinSet as set;
 ghost use Rattle.trie_context.specs.Rows.{no_tables};
 ghost use Rattle.trie_context.specs.Shape.{HasShape};
 ghost use Rattle.term_dict.specs.Dict.{IsOneToOne};
+ghost use Rattle.ntriples_model.specs.Proper.{AreProper};
 ghost use Rattle.graph_image.specs.Images.{AreKnown};
 ghost use Rattle.graph_view.specs.Views.{triples_in};
-ghost use Rattle.graph_store.specs.Proper.{AreProper};
 ghost use Rattle.graph_store.specs.State.{graph, triples_of, most_triples, IsSettled};
 ghost use Rattle.graph_store.specs.Stands.{Stands};
 

@@ -1,7 +1,7 @@
 use Rattle.std.proofs.Common.{◌≡◌, ◌∙◌, ◌+◌, ◌<◌, false, true, refl, sym, ap, subst, arith, if◌then◌else◌}
 use Rattle.std.specs.FinSet as set
 use Rattle.hypertrie_model.specs.Sets.{has}
-use Rattle.ntriples.specs.Lent.{lent_triple}
+use Rattle.rdf_term.specs.Seen.{lent_triple}
 use Rattle.trie_depth.specs.Tuples.{trip_tuple}
 use Rattle.trie_context.specs.Roots.{root_set}
 use Rattle.graph_image.specs.Images.{graph_of}

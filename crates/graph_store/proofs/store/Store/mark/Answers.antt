@@ -4,7 +4,7 @@ use Rattle.std.specs.Cmp.Lexicographic.{slice_cmp}
 use Rattle.std.specs.FinSet as set
 use Rattle.hypertrie_model.specs.Sets.{has}
 use Rattle.hypertrie_model.specs.SetLaws.{or_cases, tied-is}
-use Rattle.ntriples.specs.Lent.{lent_triple}
+use Rattle.rdf_term.specs.Seen.{lent_triple}
 use Rattle.trie_depth.specs.Tuples.{trip_tuple}
 use Rattle.trie_context.specs.Roots.{root_set}
 use Rattle.term_dict.specs.Dict.{IsOneToOne}

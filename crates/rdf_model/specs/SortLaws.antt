@@ -1,9 +1,9 @@
 -- A sorted list is the list in order of any list with the same elements.
-use Rattle.std.specs.Prelude.{◌≡◌, ℕ, ◌+◌, ◌≤◌, true, false, cond, List, [], ◌∷◌, slice_index_or, refl}
+use Rattle.std.specs.Prelude.{◌≡◌, ℕ, zero, suc, ◌+◌, ◌≤◌, true, false, cond, List, [], ◌∷◌, slice_index_or, refl}
 use Rattle.std.proofs.Common.{sym, ◌∙◌, ap, arith, add-one}
 use Rattle.std.proofs.lemmas.Cmp.{tied_itself, nat_list_cmp_total}
 use Rattle.std.proofs.lemmas.List.Sums.{sum_by-cons}
-use Rattle.std.proofs.lemmas.List.Sorted.{sum_by-IsPermutation}
+use Rattle.std.proofs.lemmas.List.Sorted.{sum_by-IsPermutation, IsPermutation-refl, IsPermutation-trans, IsPermutation-cons, IsPermutation-middle}
 use Rattle.std.specs.List.{AllByRecursion, sum_by}
 use Rattle.std.specs.List.Sorted.{IsPermutation, IsSorted}
 use Rattle.std.specs.Ordering.{is_lt, eq_by_cmp, ordering_reverse}
@@ -13,7 +13,7 @@ use Rattle.std.specs.Cmp.{IsTotalOrder}
 use Rattle.std.specs.FinSet.{IsAntisymmetric, nat_cmp-IsAntisymmetric, slice_cmp-IsAntisymmetric}
 use Rattle.hypertrie_model.specs.SetLaws.{tied-itself, tied-is}
 use Rattle.rdf_model.specs.Terms.{Text}
-use Rattle.graph_shape.specs.Sorting.{text_cmp, placed, in_order}
+use Rattle.rdf_model.specs.Sorting.{text_cmp, placed, in_order}
 
 -- no text is below one before it
 abbrev pub Rises : List Text → Type 0
@@ -151,3 +151,28 @@ sorted_is xs ys moved sorted = same_rising ys (in_order xs) (rises_sorted ys sor
 -- and lists with the same sums are one list in order
 pub in_order-sums : (xs ys : List Text) → ((f : Text → ℕ) → sum_by f xs ≡ sum_by f ys) → in_order xs ≡ in_order ys
 in_order-sums xs ys sums = same_rising (in_order xs) (in_order ys) (rises_in_order xs) (rises_in_order ys) (λ f. sum_in_order f xs ∙ sums f ∙ sym (sum_in_order f ys))
+
+-- a list in order has the elements of the list, and is sorted
+
+placed_moved : (x : Text) (ys : List Text) → IsPermutation (x ∷ ys) (placed x ys)
+placed_moved x [] = IsPermutation-refl (x ∷ [])
+placed_moved x (y ∷ ys) =
+    elim (is_lt (text_cmp y x)) as (λ b. IsPermutation (x ∷ y ∷ ys) (cond b (y ∷ placed x ys) (x ∷ y ∷ ys))) [
+      | true ↦ IsPermutation-trans _ (y ∷ x ∷ ys) _ (IsPermutation-middle (x ∷ []) y ys) (IsPermutation-cons y _ _ (placed_moved x ys))
+      | false ↦ IsPermutation-refl (x ∷ y ∷ ys)
+    ]
+
+pub in_order_moved : (xs : List Text) → IsPermutation xs (in_order xs)
+in_order_moved [] = IsPermutation-refl []
+in_order_moved (x ∷ xs) = IsPermutation-trans _ (x ∷ in_order xs) _ (IsPermutation-cons x _ _ (in_order_moved xs)) (placed_moved x (in_order xs))
+
+sorted_rising : (xs : List Text) → Rises xs → IsSorted text_cmp xs
+sorted_rising [] r k d low high = absurd (omega arith)
+sorted_rising (x ∷ []) r k d low high = absurd (omega arith)
+sorted_rising (x ∷ y ∷ ys) r zero d low high = r.0.0
+sorted_rising (x ∷ y ∷ ys) r (suc k) d low high =
+    let next : suc k + 1 ≡ suc (k + 1) = omega arith in
+    (λ i. is_lt (text_cmp (slice_index_or (x ∷ y ∷ ys) (next i) d) (slice_index_or (y ∷ ys) k d))) ∙ sorted_rising (y ∷ ys) r.1 k d (omega arith) (omega arith)
+
+pub in_order_sorted : (xs : List Text) → IsSorted text_cmp (in_order xs)
+in_order_sorted xs = sorted_rising (in_order xs) (rises_in_order xs)

@@ -1,5 +1,6 @@
 -- Texts in the order of their bytes, equal ones kept, and those of the members of a set.
-use Rattle.std.specs.Prelude.{◌≡◌, cond, List, [], ◌∷◌, ◌++◌, length}
+use Rattle.std.specs.Prelude.{◌≡◌, cond, List, [], ◌∷◌, ◌++◌, length, map, IsPermutation}
+use Rattle.std.specs.List.Sorted.{IsSorted}
 use Rattle.std.specs.Ordering.{is_lt, nat_cmp}
 use Rattle.std.specs.declared.cmp.Ordering.{Ordering}
 use Rattle.std.specs.Cmp.Lexicographic.{slice_cmp}
@@ -31,3 +32,10 @@ merged xs ys = in_order (xs ++ ys)
 -- the text of each member, each member once, in order
 unfoldable pub sorted_texts : {K : Type 0} {R : K → K → Ordering} → (K → Text) → set.FinSet R → List Text
 sorted_texts text H = fold_over merged [] (marked H) (λ member _. text member ∷ [])
+
+-- the texts of the members, each member once, in some order that is sorted
+pub record AreSortedTexts {K : Type 0} {R : K → K → Ordering} (text : K → Text) (H : set.FinSet R) (texts : List Text) : Type 0 where
+  pub members : List K
+  pub listed : AreMembersOf H members
+  pub each : IsPermutation (map text members) texts
+  pub sorted : IsSorted text_cmp texts

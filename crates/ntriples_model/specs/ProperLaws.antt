@@ -1,19 +1,13 @@
--- What a line of N-Triples says is a proper triple.
+-- What a line of N-Triples says is a proper triple, and the texts of its terms stand for them.
 use Rattle.std.specs.Prelude.{◌≡◌, true, [], ◌∷◌, ◌++◌, Option, None, Some, refl}
 use Rattle.std.proofs.Common.{inl, inr, arith}
-use Rattle.std.specs.List.{AllByRecursion}
 use Rattle.rdf_model.specs.Terms.{Text, Kind, Typed, Tagged, Term, Iri, Blank, Literal, Triple}
-use Rattle.ntriples_model.specs.Characters.{is_letter_or_digit}
-use Rattle.ntriples_model.specs.Line.{said, scoped, xsd_string, IsForm, nothing, triple, IsSubject, iri_node, blank_node, IsPredicate, iri, IsObject, node, literal, IsLiteral, string, IsKind, plain, typed, tagged}
+use Rattle.rdf_model.specs.Texts.{xsd_string}
+use Rattle.ntriples_model.specs.Line.{said, scoped, IsForm, nothing, triple, IsSubject, iri_node, blank_node, IsPredicate, iri, IsObject, node, literal, IsLiteral, string, IsKind, plain, typed, tagged}
 use Rattle.ntriples_model.specs.LineLaw.{SaysAsProductions}
 use Rattle.ntriples_model.specs.Terminals.{IsStringLiteral, IsBlankNodeLabel}
-use Rattle.ntriples_model.specs.TermText.{IsProper, TextsStand}
-use Rattle.graph_store.specs.Proper as proper
-use Rattle.graph_store.specs.Proper.{IsProperTriple}
-
--- a scope is letters and digits
-abbrev pub IsScope : Text → Type 0
-IsScope = AllByRecursion (λ c. is_letter_or_digit c ≡ true)
+use Rattle.ntriples_model.specs.TermText.{IsTermText, TextsStand}
+use Rattle.ntriples_model.specs.Proper.{IsScope, IsProper, IsProperTriple, MayBeSubject, MayBePredicate, BothTextsStand, LinesSayProperTriples, TextsOfLinesStand}
 
 module _ (stand : TextsStand) where
   proper_label : (scope : Text) → IsScope scope → (terminal text : Text) → IsBlankNodeLabel terminal text → IsProper (Blank (scoped scope text))
@@ -38,11 +32,11 @@ module _ (stand : TextsStand) where
   proper_object scope all _ _ _ (node terminal rest term s) = proper_node scope all terminal rest term s
   proper_object scope all _ _ _ (literal terminal rest term l) = proper_literal terminal rest term l
 
-  subject_form : (scope terminal rest : Text) (t : Term) → IsSubject scope terminal rest t → proper.IsSubject t
+  subject_form : (scope terminal rest : Text) (t : Term) → IsSubject scope terminal rest t → MayBeSubject t
   subject_form scope _ _ _ (iri_node terminal rest text s) = tt
   subject_form scope _ _ _ (blank_node terminal rest text s) = tt
 
-  predicate_form : (terminal rest : Text) (t : Term) → IsPredicate terminal rest t → proper.IsPredicate t
+  predicate_form : (terminal rest : Text) (t : Term) → IsPredicate terminal rest t → MayBePredicate t
   predicate_form _ _ _ (iri terminal rest text s) = tt
 
   proper_predicate : (terminal rest : Text) (t : Term) → IsPredicate terminal rest t → IsProper t
@@ -65,3 +59,12 @@ module _ (stand : TextsStand) where
 
   pub proper_line : SaysAsProductions → (scope : Text) → IsScope scope → (line : Text) (t : Triple) → said scope line ≡ Some (Some t) → IsProperTriple t
   proper_line says scope all line t e = proper_form scope all line (Some t) ((says scope line (Some t)).1 e).form
+
+  pub lines_say_proper : LinesSayProperTriples
+  lines_say_proper scope line t all is = proper_form scope all line (Some t) is.form
+
+  both_stand : (t : Term) → IsProper t → BothTextsStand t
+  both_stand t is = (is, stand.in_answers _ t is)
+
+  pub texts_of_lines : TextsOfLinesStand
+  texts_of_lines scope line t all is = let p = lines_say_proper scope line t all is in (both_stand t.s p.s, both_stand t.p p.p, both_stand t.o p.o)

@@ -1,7 +1,7 @@
 -- The texts of the members of a set in order are those of any list of the members.
-use Rattle.std.specs.Prelude.{◌≡◌, ℕ, ◌+◌, ◌≤◌, Bool, true, false, cond, List, [], ◌∷◌, ◌++◌, length, refl, None, Some}
+use Rattle.std.specs.Prelude.{◌≡◌, ◌↔◌, ℕ, ◌+◌, ◌≤◌, Bool, true, false, cond, List, [], ◌∷◌, ◌++◌, length, refl, None, Some}
 use Rattle.std.specs.Prelude.{map as each}
-use Rattle.std.proofs.Common.{sym, ◌∙◌, ap, arith}
+use Rattle.std.proofs.Common.{sym, ◌∙◌, ap, subst, arith}
 use Rattle.std.proofs.lemmas.List.{length-map}
 use Rattle.std.proofs.lemmas.List.Sums.{sum_by-cons, sum_by-append}
 use Rattle.std.specs.List.{sum_by}
@@ -13,12 +13,13 @@ use Rattle.std.specs.FinSet.{FinSet, IsAntisymmetric}
 use Rattle.std.specs.FinSet as set
 use Rattle.hypertrie_model.specs.Folds.{fold_over, marked}
 use Rattle.hypertrie_model.specs.FoldLaws.{Swaps, fold_over-empty, fold_over-insert, get-marked, marked-insert, marked-empty}
+use Rattle.hypertrie_model.specs.SetInduction.{set_ind}
 use Rattle.rdf_model.specs.Terms.{Text}
 use Rattle.set_image.specs.Images.{image, IsOneToOneOn}
 use Rattle.set_image.specs.ImageLaws.{image-from_list}
 use Rattle.set_image.specs.OneToOneLaws.{len-image}
-use Rattle.graph_shape.specs.Sorting.{AreMembersOf, text_cmp, in_order, merged, sorted_texts}
-use Rattle.graph_shape.specs.SortLaws.{sum_in_order, in_order-sums, sorted_is}
+use Rattle.rdf_model.specs.Sorting.{AreMembersOf, AreSortedTexts, text_cmp, in_order, merged, sorted_texts}
+use Rattle.rdf_model.specs.SortLaws.{sum_in_order, in_order-sums, sorted_is, in_order_moved, in_order_sorted}
 
 sum_merged : (f : Text → ℕ) (xs ys : List Text) → sum_by f (merged xs ys) ≡ sum_by f xs + sum_by f ys
 sum_merged f xs ys = sum_in_order f (xs ++ ys) ∙ sum_by-append f xs ys
@@ -54,6 +55,12 @@ module _ {K : Type 0} {R : K → K → Ordering} (o : IsTotalOrder R) (exact : I
       let whole : length (x ∷ xs) ≡ set.len (set.insert H x) = once in
       by_cases (IsFresh x xs) (set.contains H x) (λ e. let n = grown H x true e in absurd (omega arith)) (λ e. let n = grown H x false e in record { new = e; once = omega arith })
 
+  -- each set has a list of its members
+  members_of : (H : FinSet R) → (xs : List K) × AreMembersOf H xs
+  members_of = set_ind o exact (λ H. (xs : List K) × AreMembersOf H xs)
+      ([], record { all = refl; once = sym (set.len-empty R) })
+      (λ H x new m. let n = grown H x false new in (x ∷ m.0, record { all = ap (λ S. set.insert S x) m.1.all; once = omega (arith, m.1.once) }))
+
   module _ (text : K → Text) where
     sorted_once : (xs : List K) → length xs ≡ set.len (set.from_list {R = R} xs) → in_order (each text xs) ≡ sorted_texts text (set.from_list {R = R} xs)
     unfolding sorted_texts
@@ -74,6 +81,15 @@ module _ {K : Type 0} {R : K → K → Ordering} (o : IsTotalOrder R) (exact : I
     -- and so what they are sorted to
     pub members_sorted : (H : FinSet R) (xs : List K) (lines : List Text) → AreMembersOf H xs → IsPermutation (each text xs) lines → IsSorted text_cmp lines → lines ≡ sorted_texts text H
     members_sorted H xs lines members moved sorted = sorted_is (each text xs) lines moved sorted ∙ members_in_order H xs members
+
+    are_sorted : (H : FinSet R) → AreSortedTexts text H (sorted_texts text H)
+    are_sorted H =
+        let m = members_of H in
+        subst (AreSortedTexts text H) (members_in_order H m.0 m.1) (record { members = m.0; listed = m.1; each = in_order_moved (each text m.0); sorted = in_order_sorted (each text m.0) })
+
+    -- the sorted texts of a set are the only sorted list of its members' texts
+    pub sorted_texts_only : (H : FinSet R) (texts : List Text) → AreSortedTexts text H texts ↔ (texts ≡ sorted_texts text H)
+    sorted_texts_only H texts = (λ a. members_sorted H a.members texts a.listed a.each a.sorted, λ e. subst (AreSortedTexts text H) (sym e) (are_sorted H))
 
 module _ {X Y : Type 0} {Q : X → X → Ordering} {P : Y → Y → Ordering} (o : IsTotalOrder Q) (exact : IsAntisymmetric Q) (op : IsTotalOrder P) (exact_p : IsAntisymmetric P) where
   -- the values of the members are the members of the image

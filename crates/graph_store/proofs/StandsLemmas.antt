@@ -21,7 +21,6 @@ use Rattle.set_image.specs.OneToOneLaws.{len-image}
 use Rattle.tuple_image.specs.TupleImages.{tuple_image, ReadsShape}
 use Rattle.tuple_image.specs.RowImages.{reads_shape}
 use Rattle.graph_shape.specs.GraphShapes.{tuple_of, tuples_of, rows_in, figures_of}
-use Rattle.graph_shape.specs.GraphShapes as shape
 use Rattle.graph_image.specs.Images.{term_at, terms_of}
 use Rattle.graph_image.specs.ImageLaws.{len-graph_of}
 use Rattle.graph_image.specs.TermLaws.{len-names}
@@ -140,7 +139,7 @@ unfolding figures_of
 figures_triples G = refl
 
 pub figures_terms : (G : Graph) → set.len (terms_of G) ≡ (figures_of G).terms
-unfolding figures_of terms_of shape.terms_of
+unfolding figures_of terms_of
 figures_terms G = refl
 
 pub figures_two : (G : Graph) → rows_in G (set.len (two term_cmp (tuples_of G))) ≡ (figures_of G).two

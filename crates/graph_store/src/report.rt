@@ -1,6 +1,6 @@
 //! What a store tells of its graph: its figures, its shape, and its lines.
 ghost use Rattle.std.specs.Prelude.{◌≡◌, IfOk};
-ghost use Rattle.rdf_model.specs.Dumps.{AreDumpLines};
+ghost use Rattle.rdf_model.specs.Dumps.{AreDumpLines, dump_lines};
 ghost use Rattle.graph_shape.specs.GraphShapes.{figures_of, shape_lines as lines_of_shape};
 ghost use Rattle.graph_store.specs.State.{graph, IsSettled};
 
@@ -46,7 +46,8 @@ impl<M: Mix> Store<M> {
 
     /// The lines of all triples in N-Triples, sorted by their bytes.
     pub fn dump(&self, alloc: Global) -> Result<Lines, Memory>
-        ensures { IfOk result (λ lines. AreDumpLines (graph self.now) lines) }
+        ensures value { IfOk result (λ lines. lines ≡ dump_lines (graph self.now)) }
+        ensures sorted { IfOk result (λ lines. AreDumpLines (graph self.now) lines) }
     {
         lines::dump(alloc, self.view())
     }

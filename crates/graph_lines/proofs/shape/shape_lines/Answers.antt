@@ -23,4 +23,4 @@ returns c =
     let terms = c.args.all.dict.now in
     let t = c.args.all.tables.now in
     let texts = c.in_ok-row_texts.ensures in
-    on_ok _ _ (λ lines order H shape known. order ∙ lines_in_order terms (one_known t terms c.args.all.known) t H known shape [] texts.0 c.in_ok-row_texts.field-0.items refl texts.1 texts.2) c.sorted_lines.result c.sorted_lines.ensures.order
+    on_ok _ _ (λ lines order H shape known. order ∙ lines_in_order terms (one_known t terms c.args.all.known) t H known shape [] texts.0 c.in_ok-row_texts.field-0.items refl texts.1 texts.2) c.sorted_lines.result c.sorted_lines.ensures

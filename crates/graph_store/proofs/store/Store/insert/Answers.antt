@@ -1,4 +1,4 @@
-use Rattle.std.proofs.Common.{◌≡◌, ◌∙◌, refl, sym, ap, subst, arith}
+use Rattle.std.proofs.Common.{◌≡◌, ◌∙◌, sym, ap, subst, arith}
 use Rattle.std.specs.FinSet as set
 use Rattle.trie_context.specs.Roots.{root_set}
 use Rattle.graph_image.specs.Images.{graph_of, terms_of, HasExactly, without}

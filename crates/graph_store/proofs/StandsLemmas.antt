@@ -21,7 +21,6 @@ use Rattle.set_image.specs.OneToOneLaws.{len-image}
 use Rattle.tuple_image.specs.TupleImages.{tuple_image, ReadsShape}
 use Rattle.tuple_image.specs.RowImages.{reads_shape}
 use Rattle.graph_shape.specs.GraphShapes.{tuple_of, tuples_of, rows_in, figures_of}
-use Rattle.graph_shape.specs.GraphShapes as shape
 use Rattle.graph_image.specs.Images.{term_at, terms_of}
 use Rattle.graph_image.specs.ImageLaws.{len-graph_of}
 use Rattle.graph_image.specs.TermLaws.{len-names}
@@ -34,8 +33,8 @@ use Rattle.trie_context.specs.Roots.{root_set}
 use Rattle.trie_context.specs.RootShape.{OnlyRootHeld, root_shape}
 use Rattle.trie_context.specs.Shape.{HasShape}
 use Rattle.trie_context.specs.MoveLaws.{held_there}
-use Rattle.graph_lines.specs.Walks.{has_id}
-use Rattle.graph_lines.proofs.DumpLemmas.{known_ids}
+use Rattle.graph_view.specs.Read.{has_id}
+use Rattle.graph_view.specs.ReadLaws.{known_ids}
 use Rattle.graph_lines.proofs.RowLemmas.{lone_ids, tuples_read}
 use Rattle.graph_store.specs.State.{State, graph, triples_of, IsSound}
 use Rattle.graph_store.specs.Stands.{row_tuples, IsMany, Stands}
@@ -66,8 +65,9 @@ module _ (mixed : ℕ → ℕ → ℕ → ℕ → ℕ) (s : State) (kept : AreKe
     λ _. tt,
   )
 
-  pub stands : Stands s
+  pub stands : Stands mixed s
   stands = record {
+    kept = kept;
     sound = λ d r row at. subst (λ T. InShape term_cmp T d (row_tuples s d r) row.count) (sym same) (read.sound d (set_of s.tables d r) row.count (has_shape.sound d r row at));
     complete = λ d T n e.
         let w = read.complete d T n (subst (λ Z. InShape term_cmp Z d T n) same e) in
@@ -94,7 +94,7 @@ len-tuples : (G : Graph) → set.len (tuples_of G) ≡ set.len G
 unfolding triple_back
 len-tuples G = len-image triples_total exact_triples (lists_total terms_total) (slice_cmp-IsAntisymmetric exact_terms) tuple_of G (λ t there u other alike. ap triple_back alike)
 
-module _ (s : State) (stands : Stands s) where
+module _ (mixed : ℕ → ℕ → ℕ → ℕ → ℕ) (s : State) (stands : Stands mixed s) where
   rows : (d : ℕ) → ℕ
   rows d = map.len (rows_at s.tables d)
 
@@ -139,7 +139,7 @@ unfolding figures_of
 figures_triples G = refl
 
 pub figures_terms : (G : Graph) → set.len (terms_of G) ≡ (figures_of G).terms
-unfolding figures_of terms_of shape.terms_of
+unfolding figures_of
 figures_terms G = refl
 
 pub figures_two : (G : Graph) → rows_in G (set.len (two term_cmp (tuples_of G))) ≡ (figures_of G).two

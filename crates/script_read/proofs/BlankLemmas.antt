@@ -4,7 +4,7 @@ use Rattle.std.proofs.lemmas.List.{reverse-append, reverse-reverse, take_more, t
 use Rattle.bstr.specs.Bytes.{is_in, not_in}
 use Rattle.memchr.specs.Find.{Nowhere, NoneBefore, NoneAfter, Passes}
 use Rattle.std.proofs.Math.Seq.{drop-cons}
-use Rattle.script_model.specs.Commands.{is_blank, after_blanks}
+use Rattle.text_lines.specs.Blanks.{is_blank, after_blanks}
 use Rattle.script_read.specs.Forms.{without_blanks_behind}
 
 pub skip_blank : (line : List ℕ) (i : ℕ) → i < length line → is_blank (get_or line i 0) ≡ true → after_blanks (drop i line) ≡ after_blanks (drop (i + 1) line)

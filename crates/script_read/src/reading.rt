@@ -2,7 +2,8 @@
 ghost use Rattle.std.specs.Prelude.{◌≡◌, ◌≤◌, drop, length, Some, take};
 ghost use Rattle.std.specs.Option.{option_map};
 ghost use Rattle.script_model.specs.Commands as spec;
-ghost use Rattle.script_model.specs.Commands.{after_blanks, form_of, trimmed};
+ghost use Rattle.text_lines.specs.Blanks.{after_blanks};
+ghost use Rattle.script_model.specs.Commands.{form_of, trimmed};
 ghost use Rattle.script_read.specs.Forms.{form_meant, without_blanks_behind};
 
 use crate::form::Command;

@@ -149,16 +149,16 @@ module _ (s : State) (body : List Saying) (taken : IdSet) (h : AreToGo s body ta
 
 -- ---- what lines do
 
-module _ (s : State) (change : script.Change) (body : List Saying) (sound : IsSound s) where
-  pub lack_memory : (t : State) → t ≡ s → ChangesStore s change body t (answers.Refused answers.NoMemory)
-  lack_memory t is = subst (λ z. ChangesStore s change body z (answers.Refused answers.NoMemory)) (sym is) (record { changes = no_memory; refused = λ _. refl; sound = sound; max = refl })
+module _ (mixed : ℕ → ℕ → ℕ → ℕ → ℕ) (s : State) (change : script.Change) (body : List Saying) (sound : IsSound mixed s) where
+  pub lack_memory : (t : State) → t ≡ s → ChangesStore mixed s change body t (answers.Refused answers.NoMemory)
+  lack_memory t is = subst (λ z. ChangesStore mixed s change body z (answers.Refused answers.NoMemory)) (sym is) (record { changes = no_memory; refused = λ _. refl; sound = sound; max = refl })
 
-  refused_by : (r : answers.Refusal) → batch_refusal s change body ≡ Some r → ChangesStore s change body s (answers.Refused r)
+  refused_by : (r : answers.Refusal) → batch_refusal s change body ≡ Some r → ChangesStore mixed s change body s (answers.Refused r)
   refused_by r e = record { changes = refused r e; refused = λ _. refl; sound = sound; max = refl }
 
-  pub refused_batch : (t : State) (r : Refusal) → t ≡ s → IsCause s change body r → ChangesStore s change body t (answers.Refused (refusal_of r))
-  refused_batch t r is h = subst (λ z. ChangesStore s change body z (answers.Refused (refusal_of r))) (sym is) (by r h) where
-    by : (r : Refusal) → IsCause s change body r → ChangesStore s change body s (answers.Refused (refusal_of r))
+  pub refused_batch : (t : State) (r : Refusal) → t ≡ s → IsCause s change body r → ChangesStore mixed s change body t (answers.Refused (refusal_of r))
+  refused_batch t r is h = subst (λ z. ChangesStore mixed s change body z (answers.Refused (refusal_of r))) (sym is) (by r h) where
+    by : (r : Refusal) → IsCause s change body r → ChangesStore mixed s change body s (answers.Refused (refusal_of r))
     by (cause.Line n) h = refused_by (answers.BadLine n) h
     by (cause.Full n) h = refused_by (answers.FullAt n) h
     by cause.Memory h = lack_memory s refl
@@ -170,10 +170,10 @@ module _ (s : State) (change : script.Change) (body : List Saying) (sound : IsSo
     by cause.Size h = absurd h
     by cause.Unended h = absurd h
 
-pub inserted : (s : State) (body : List Saying) (old : State) (b : Staging) (t : State) (changed now : ℕ) → AreStaged s body old b
-    → graph t ≡ set.union (graph old) (staged_graph old b) → changed ≡ set.len (staged_graph old b) → now ≡ set.len (graph t) → IsSound t → t.max ≡ old.max
-    → ChangesStore s script.Inserts body t (answers.Done (answers.New changed now))
-inserted s body old b t changed now h is c n sound max = record {
+pub inserted : {mixed : ℕ → ℕ → ℕ → ℕ → ℕ} (s : State) (body : List Saying) (old : State) (b : Staging) (t : State) (changed now : ℕ) → AreStaged s body old b
+    → graph t ≡ set.union (graph old) (staged_graph old b) → changed ≡ set.len (staged_graph old b) → now ≡ set.len (graph t) → IsSound mixed t → t.max ≡ old.max
+    → ChangesStore mixed s script.Inserts body t (answers.Done (answers.New changed now))
+inserted {mixed} s body old b t changed now h is c n sound max = record {
   changes = done (graph t) (answers.Done (answers.New changed now)) h.good (
     is ∙ (λ i. set.union (h.same i) (h.triples i)) ∙ union-lacked (graph s) (triples_of body),
     (λ i. answers.Done (answers.New ((c ∙ ap set.len h.triples) i) (n i))),
@@ -183,10 +183,10 @@ inserted s body old b t changed now h is c n sound max = record {
   max = max ∙ same_max s body old b h;
 }
 
-pub deleted : (s : State) (body : List Saying) (taken : IdSet) (t : State) (changed now : ℕ) → AreToGo s body taken
-    → graph t ≡ set.difference (graph s) (marked_graph s taken) → changed ≡ set.len (marked_graph s taken) → now ≡ set.len (graph t) → IsSound t → t.max ≡ s.max
-    → ChangesStore s script.Deletes body t (answers.Done (answers.Gone changed now))
-deleted s body taken t changed now h is c n sound max = record {
+pub deleted : {mixed : ℕ → ℕ → ℕ → ℕ → ℕ} (s : State) (body : List Saying) (taken : IdSet) (t : State) (changed now : ℕ) → AreToGo s body taken
+    → graph t ≡ set.difference (graph s) (marked_graph s taken) → changed ≡ set.len (marked_graph s taken) → now ≡ set.len (graph t) → IsSound mixed t → t.max ≡ s.max
+    → ChangesStore mixed s script.Deletes body t (answers.Done (answers.Gone changed now))
+deleted {mixed} s body taken t changed now h is c n sound max = record {
   changes = done (graph t) (answers.Done (answers.Gone changed now)) h.good (
     is ∙ ap (set.difference (graph s)) h.triples ∙ difference-had (graph s) (triples_of body),
     (λ i. answers.Done (answers.Gone ((c ∙ ap set.len h.triples) i) (n i))),

@@ -37,13 +37,13 @@ use Rattle.tentris_core.proofs.BatchLemmas.{cause_stays}
 -- ---- batches
 
 -- a batch of a sound store can be carried out
-pub ready_batch : (s : State) (change : script.Change) (body : List Saying) (held : State) (b : Batch) → IsSound s → IsBatch s change body held b → IsReady held b
-ready_batch s script.Inserts body held (Inserts staged) sound h = h.fits
-ready_batch s script.Deletes body held (Inserts staged) sound h = absurd h
-ready_batch s script.Inserts body held (Deletes taken) sound h = absurd h
-ready_batch s script.Deletes body held (Deletes taken) sound h = (subst IsSettled (sym h.0) sound.settled, subst (λ z. AreMarked z taken) (sym h.0) h.1.there)
-ready_batch s script.Inserts body held (Refused cause) sound h = tt
-ready_batch s script.Deletes body held (Refused cause) sound h = tt
+pub ready_batch : {mixed : ℕ → ℕ → ℕ → ℕ → ℕ} (s : State) (change : script.Change) (body : List Saying) (held : State) (b : Batch) → IsSound mixed s → IsBatch s change body held b → IsReady held b
+ready_batch {mixed} s script.Inserts body held (Inserts staged) sound h = h.fits
+ready_batch {mixed} s script.Deletes body held (Inserts staged) sound h = absurd h
+ready_batch {mixed} s script.Inserts body held (Deletes taken) sound h = absurd h
+ready_batch {mixed} s script.Deletes body held (Deletes taken) sound h = (subst IsSettled (sym h.0) sound.settled, subst (λ z. AreMarked z taken) (sym h.0) h.1.there)
+ready_batch {mixed} s script.Inserts body held (Refused cause) sound h = tt
+ready_batch {mixed} s script.Deletes body held (Refused cause) sound h = tt
 
 -- a refused batch with one more line
 pub refused_more : (s : State) (change : script.Change) (body : List Saying) (now : State) (l : Saying) (r : Refusal) → IsBatch s change body now (Refused r) → (now ≡ s) × IsCause s change (body ++ l ∷ []) r
@@ -67,7 +67,7 @@ none_marked s = record { there = marked_nothing s; triples = graph_of-empty s.di
 -- ---- what lines do, as commands
 
 -- lines of a block
-pub block_step : (A : Around) (s : State) (change : script.Change) (body : List Line) (t : State) (a : answers.Answer) → ChangesStore s change (sayings [] body) t a
+pub block_step : (A : Around) (s : State) (change : script.Change) (body : List Line) (t : State) (a : answers.Answer) → ChangesStore A.mixed s change (sayings [] body) t a
     → Carries A s (script.Block (script.Triples change) body) t a None
 block_step A s change body t a h = record { step = by (graph t) a h.changes; refused = h.refused; sound = h.sound; max = h.max } where
   cfg : Config
@@ -85,7 +85,7 @@ block_step A s change body t a h = record { step = by (graph t) a h.changes; ref
   by _ _ changed.no_memory = steps.no_memory c (λ e. let t : ⊥ = cc in t)
 
 -- a command that changes nothing, and is answered
-pub answer_step : (A : Around) (s : State) (c : script.OneLine) (a : answers.Answer) → IsSound s → Answers (graph s) c a → is_refused a ≡ false → Carries A s (script.Single c) s a None
+pub answer_step : (A : Around) (s : State) (c : script.OneLine) (a : answers.Answer) → IsSound A.mixed s → Answers (graph s) c a → is_refused a ≡ false → Carries A s (script.Single c) s a None
 answer_step A s c a sound h good = record {
   step = steps.done (script.Single c) (graph s) a refl (refl, h);
   refused = λ e. absurd (clash (sym good ∙ e));
@@ -96,7 +96,7 @@ answer_step A s c a sound h good = record {
   clash e = let t : ⊥ = cc in t
 
 -- memory ran out for a command
-pub memory_step : (A : Around) (s : State) (c : script.OneLine) → IsSound s → Carries A s (script.Single c) s (answers.Refused answers.NoMemory) None
+pub memory_step : (A : Around) (s : State) (c : script.OneLine) → IsSound A.mixed s → Carries A s (script.Single c) s (answers.Refused answers.NoMemory) None
 memory_step A s c sound = record { step = steps.no_memory (script.Single c) (λ e. let t : ⊥ = cc in t); refused = λ _. refl; sound = sound; max = refl }
 
 -- ---- places
@@ -147,7 +147,7 @@ module _ (A : Around) (l : Line) (s : State) where
   }
 
   -- a line that is no command
-  pub meets_bad : (a : Answer) → answer_of a ≡ answers.Refused answers.NoCommand → false ≡ script.skipped l → None ≡ script.form_of l → IsSound s → MeetsLine A Outside l s s place.Outside (Some a)
+  pub meets_bad : (a : Answer) → answer_of a ≡ answers.Refused answers.NoCommand → false ≡ script.skipped l → None ≡ script.form_of l → IsSound A.mixed s → MeetsLine A Outside l s s place.Outside (Some a)
   meets_bad a is told form sound = record {
     next = Outside;
     after = s;

@@ -39,7 +39,7 @@ use Rattle.tentris_core.proofs.TraceLemmas.{carries_more, over, commands_push, t
 pub record HasRun (A : Around) (from held : store.State) (left_before left_now : Option (List ℕ)) (s : State) (place : Place) (before now : Option (List ℕ)) (refused : Bool) : Type 0 where
   -- the store after the last command
   pub last : store.State
-  pub sound : IsSound last
+  pub sound : IsSound A.mixed last
   pub taken : List ℕ
   pub told : List Line
   pub trace : List StoreEvent
@@ -63,7 +63,7 @@ prepend_both None p q = refl
 prepend_both (Some a) p q = ap Some (sym (append_assoc p q a))
 
 -- nothing was read yet
-pub run_starts : (A : Around) (from : store.State) (left before : Option (List ℕ)) (s : State) → IsSound from → s ≡ at_start A.most_bytes → HasRun A from from left left s place.Outside before before false
+pub run_starts : (A : Around) (from : store.State) (left before : Option (List ℕ)) (s : State) → IsSound A.mixed from → s ≡ at_start A.most_bytes → HasRun A from from left left s place.Outside before before false
 run_starts A from left before s sound is = record {
   last = from;
   sound = sound;
@@ -83,11 +83,11 @@ run_starts A from left before s sound is = record {
 }
 
 -- a store that can carry out what its place holds
-pub ready : (p : Position) (s held : store.State) (q : Place) → IsSound s → IsAt p s held q → IsReadyAt held q
-ready Outside s held place.Outside sound at = subst IsSound (sym at) sound
-ready Outside s held (place.Inside block) sound at = absurd at
-ready (Inside kind body) s held place.Outside sound at = absurd at
-ready (Inside (Triples change) body) s held (place.Inside block) sound at = ready_batch s change _ held block.batch sound at.batch
+pub ready : {mixed : ℕ → ℕ → ℕ → ℕ → ℕ} (p : Position) (s held : store.State) (q : Place) → IsSound mixed s → IsAt p s held q → IsReadyAt mixed held q
+ready {mixed} Outside s held place.Outside sound at = subst (IsSound mixed) (sym at) sound
+ready {mixed} Outside s held (place.Inside block) sound at = absurd at
+ready {mixed} (Inside kind body) s held place.Outside sound at = absurd at
+ready {mixed} (Inside (Triples change) body) s held (place.Inside block) sound at = ready_batch s change _ held block.batch sound at.batch
 
 all_more : (cs : List Command) (c : Command) → list_all is_closed cs ≡ true → is_closed c ≡ true → list_all is_closed (cs ++ c ∷ []) ≡ true
 all_more [] c h e = ap (λ b. b && true) e
@@ -247,7 +247,7 @@ module _ (A : Around) (from held : store.State) (l0 l1 : Option (List ℕ)) (s :
     pub run_line : TakesLine A h.position (line_told cut t.cutter) h.last kept q now then GoesOn → HasRun A from kept l0 l2 t q before then refused
     run_line k = record {
       last = k.after;
-      sound = subst IsSound (sym k.leads.0) h.sound;
+      sound = subst (IsSound A.mixed) (sym k.leads.0) h.sound;
       taken = h.taken ++ n.q;
       told = h.told ++ line_told cut t.cutter ∷ [];
       trace = h.trace;

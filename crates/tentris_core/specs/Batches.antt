@@ -30,10 +30,10 @@ pub data ChangesBy (most : ℕ) (change : script.Change) (said : List Saying) (G
   no_memory : ChangesBy most change said G G (answers.Refused answers.NoMemory)
 
 -- The lines took the store from s to t.
-pub record ChangesStore (s : State) (change : script.Change) (said : List Saying) (t : State) (a : answers.Answer) : Type 0 where
+pub record ChangesStore (mixed : ℕ → ℕ → ℕ → ℕ → ℕ) (s : State) (change : script.Change) (said : List Saying) (t : State) (a : answers.Answer) : Type 0 where
   pub changes : ChangesBy s.max change said (graph s) (graph t) a
   pub refused : is_refused a ≡ true → t ≡ s
-  pub sound : IsSound t
+  pub sound : IsSound mixed t
   pub max : t.max ≡ s.max
 
 -- the refusal of these lines over the store s

@@ -1,24 +1,25 @@
 -- What one command does to a store, and a run of commands over stores. `Step` and `Run` say it of worlds; a refused command leaves the
 -- whole store as it was, and after each command the store is settled, and its tables are the shape of its graph.
-use Rattle.std.specs.Prelude.{◌≡◌, ℕ, Bool, true, false, List, [], ◌∷◌, Option, None, map}
+use Rattle.std.specs.Prelude.{◌≡◌, ℕ, Bool, true, List, [], ◌∷◌, Option, map}
 use Rattle.file_model.specs.FileMap.{FileMap}
 use Rattle.script_model.specs.Commands.{Command}
 use Rattle.run_model.specs.Answers.{Answer, is_refused}
 use Rattle.run_model.specs.Worlds.{Config, World, FailedRead}
 use Rattle.run_model.specs.Steps.{Step, Event, Run}
-use Rattle.trie_context.specs.Kept.{AreKept}
 use Rattle.graph_store.specs.State.{State, graph, IsSettled}
 use Rattle.graph_store.specs.Stands.{Stands}
+use Rattle.tentris_core.specs.declared.settings.Settings.{Settings}
 
--- Beside the store: whether rows are sorted, how many bytes the script and each file may have, and the files, where they are told.
+-- Beside the store: the mix by which its tables hash, whether rows are sorted, how many bytes the script and each file may have, and the
+-- files, where they are told.
 pub record Around : Type 0 where
+  pub mixed : ℕ → ℕ → ℕ → ℕ → ℕ
   pub sorted : Bool
   pub most_bytes : ℕ
   pub files : Option FileMap
 
--- rows aren't sorted, and no files are told
-abbrev pub alone : ℕ → Around
-alone most = record { sorted = false; most_bytes = most; files = None }
+abbrev pub around : (ℕ → ℕ → ℕ → ℕ → ℕ) → Settings → Option FileMap → Around
+around mixed settings files = record { mixed = mixed; sorted = settings.sorted; most_bytes = settings.most_bytes; files = files }
 
 abbrev pub config_in : Around → State → Config
 config_in A s = record { sorted = A.sorted; most_triples = s.max; most_bytes = A.most_bytes }
@@ -27,16 +28,15 @@ abbrev pub world_in : Around → State → World
 world_in A s = record { graph = graph s; files = A.files }
 
 -- the dictionary has exactly the graph's terms, and the tables are kept and have exactly the rows of the graph's shape
-pub record IsSound (s : State) : Type 0 where
+pub record IsSound (mixed : ℕ → ℕ → ℕ → ℕ → ℕ) (s : State) : Type 0 where
   pub settled : IsSettled s
-  pub kept : (mixed : ℕ → ℕ → ℕ → ℕ → ℕ) × AreKept mixed s.tables
-  pub stands : Stands s
+  pub stands : Stands mixed s
 
 -- a command took the store from s to t
 pub record Carries (A : Around) (s : State) (c : Command) (t : State) (a : Answer) (failed : Option FailedRead) : Type 0 where
   pub step : Step (config_in A s) (world_in A s) c (world_in A t) a failed
   pub refused : is_refused a ≡ true → t ≡ s
-  pub sound : IsSound t
+  pub sound : IsSound A.mixed t
   pub max : t.max ≡ s.max
 
 -- one command of a run: what it answered, which read of it failed, and the store that it left

@@ -51,9 +51,9 @@ lines_in place.Outside = 0
 lines_in (place.Inside block) = block.lines
 
 -- the store can carry out a command outside a block, or the block of the place
-abbrev pub IsReadyAt : State → Place → Type 0
-IsReadyAt now place.Outside = IsSound now
-IsReadyAt now (place.Inside block) = IsReady now block.batch
+abbrev pub IsReadyAt : (ℕ → ℕ → ℕ → ℕ → ℕ) → State → Place → Type 0
+IsReadyAt mixed now place.Outside = IsSound mixed now
+IsReadyAt mixed now (place.Inside block) = IsReady now block.batch
 
 -- A line leads on from one position to another, and ends no command.
 abbrev pub GoesTo : Position → Line → Position → Type 0

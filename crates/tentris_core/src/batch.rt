@@ -159,8 +159,8 @@ impl Batch {
         counts: &mut Counts<W, V>,
     ) -> Answer
         requires ready { IsReady store.old self }
-        ensures { (s : State) (change : script.Change) (said : List Saying) → IsSound s → IsBatch s change said store.old self
-            → ChangesStore s change said store.new (answer_of result) }
+        ensures { (s : State) (change : script.Change) (said : List Saying) → IsSound M.mixed s → IsBatch s change said store.old self
+            → ChangesStore M.mixed s change said store.new (answer_of result) }
     {
         match self {
             Batch::Inserts(staged) => put_in(alloc, store, staged, counts),
@@ -189,8 +189,8 @@ fn put_in<M: Mix, W: Ledger, V: Ledger>(
     counts: &mut Counts<W, V>,
 ) -> Answer
     requires fits { Fits store.old staged }
-    ensures { (s : State) (said : List Saying) → IsSound s → AreStaged s said store.old staged
-        → ChangesStore s script.Inserts said store.new (answer_of result) }
+    ensures { (s : State) (said : List Saying) → IsSound M.mixed s → AreStaged s said store.old staged
+        → ChangesStore M.mixed s script.Inserts said store.new (answer_of result) }
 {
     let inserted = store.insert(alloc, staged, &mut counts.interns, &mut counts.retains);
     // This call tells the proof that the tables are the shape of the graph.
@@ -209,8 +209,8 @@ fn take_out<M: Mix, W: Ledger, V: Ledger>(
     counts: &mut Counts<W, V>,
 ) -> Answer
     requires ready { IsReady store.old (Deletes taken) }
-    ensures { (said : List Saying) → IsSound store.old → AreToGo store.old said taken
-        → ChangesStore store.old script.Deletes said store.new (answer_of result) }
+    ensures { (said : List Saying) → IsSound M.mixed store.old → AreToGo store.old said taken
+        → ChangesStore M.mixed store.old script.Deletes said store.new (answer_of result) }
 {
     let deleted = store.delete(alloc, taken, &mut counts.interns, &mut counts.retains);
     // This call tells the proof that the tables are the shape of the graph.

@@ -4,10 +4,10 @@
 ghost use Rattle.std.specs.Prelude.{◌≡◌, ◌≤◌, ◌+◌, ◌<◌, ◌-◌, ◌^◌, ◌++◌, ◌∷◌, [], List, length, IfSome, None};
 ghost use Rattle.text_lines.specs.Lines.{Line};
 ghost use Rattle.script_model.specs.Commands as script;
-ghost use Rattle.graph_store.specs.State.{State};
+ghost use Rattle.graph_store.specs.State.{State, IsSettled};
 ghost use Rattle.tentris_core.specs.Seen.{answer_of};
 ghost use Rattle.tentris_core.specs.Batches.{lent_line, IsReady};
-ghost use Rattle.tentris_core.specs.Carrying.{Around, IsSound, Carries};
+ghost use Rattle.tentris_core.specs.Carrying.{Around, around, IsSound, Carries};
 ghost use Rattle.tentris_core.specs.Places.{IsBlock, IsAt, IsReadyAt, MeetsLine, TakesLine, Position, Outside, Inside, lines_in};
 ghost use Rattle.tentris_core.specs.Puts.{IsPassedOn, HasOutcome};
 ghost use Rattle.tentris_core.specs.Seen.{Tells};
@@ -16,6 +16,7 @@ use crate::answer::Answer;
 use crate::batch::Batch;
 use crate::counts::Counts;
 use crate::outcome::{Outcome, pass_on};
+use crate::settings::Settings;
 use answer_text::Refusal;
 use graph_store::{Staged, Store, Taken};
 use rdf_term::Scratch;
@@ -66,7 +67,7 @@ impl Block {
 impl Place {
     /// Leaves the store as it was after the last command.
     pub fn abandon<M: Mix>(self, store: &mut Store<M>)
-        requires ready { IsReadyAt store.old self }
+        requires ready { IsReadyAt M.mixed store.old self }
         ensures { (p : Position) (s : State) → IsAt p s store.old self → store.new ≡ s }
     {
         match self {
@@ -81,7 +82,7 @@ impl Place {
 
 // Answers the lines of the graph.
 fn dump<M: Mix>(alloc: Global, store: &Store<M>) -> Answer
-    ensures { (A : Around) → IsSound store.now → Carries A store.now (script.Single script.Dump) store.now (answer_of result) None }
+    ensures { (A : Around) → IsSound A.mixed store.now → Carries A store.now (script.Single script.Dump) store.now (answer_of result) None }
 {
     match store.dump(alloc) {
         Ok(lines) => Answer::Dumped(lines),
@@ -91,7 +92,7 @@ fn dump<M: Mix>(alloc: Global, store: &Store<M>) -> Answer
 
 // Answers the lines of the graph's shape.
 fn shape<M: Mix>(alloc: Global, store: &Store<M>) -> Answer
-    ensures { (A : Around) → IsSound store.now → Carries A store.now (script.Single script.Shape) store.now (answer_of result) None }
+    ensures { (A : Around) → IsSound A.mixed store.now → Carries A store.now (script.Single script.Shape) store.now (answer_of result) None }
 {
     match store.shape(alloc) {
         Ok(lines) => Answer::Shaped(lines),
@@ -101,16 +102,16 @@ fn shape<M: Mix>(alloc: Global, store: &Store<M>) -> Answer
 
 // Answers the figures of the graph.
 fn stats<M: Mix>(store: &Store<M>) -> Answer
-    requires { IsSound store.now }
-    ensures { (A : Around) → Carries A store.now (script.Single script.Stats) store.now (answer_of result) None }
+    requires { IsSettled store.now }
+    ensures { (A : Around) → IsSound A.mixed store.now → Carries A store.now (script.Single script.Stats) store.now (answer_of result) None }
 {
     Answer::Counted(store.stats())
 }
 
 // Takes a line outside a block.
 fn outside<M: Mix>(alloc: Global, store: &Store<M>, line: Option<&[u8]>) -> (Place, Option<Answer>)
-    requires { IsSound store.now }
-    ensures { (A : Around) → MeetsLine A Outside (lent_line line.entry) store.now store.now result.0 result.1 }
+    requires { IsSettled store.now }
+    ensures { (A : Around) → IsSound A.mixed store.now → MeetsLine A Outside (lent_line line.entry) store.now store.now result.0 result.1 }
 {
     let Some(bytes) = line else {
         return (Place::Outside, Some(Answer::Refused(Refusal::Command)));
@@ -130,7 +131,7 @@ fn outside<M: Mix>(alloc: Global, store: &Store<M>, line: Option<&[u8]>) -> (Pla
 
 // A block of triples that are put in, without a line yet.
 fn begin_insert<M: Mix>(alloc: Global, store: &Store<M>) -> Place
-    requires { IsSound store.now }
+    requires { IsSettled store.now }
     ensures { IsAt (Inside (script.Triples script.Inserts) []) store.now store.now result }
 {
     // This call tells the proof how many triples there are at most.
@@ -164,6 +165,7 @@ fn ends(line: Option<&[u8]>) -> bool
 // Takes a line of a block.
 fn inside<M: Mix, W: Ledger, V: Ledger>(
     alloc: Global,
+    settings: Settings,
     store: &mut Store<M>,
     block: Block,
     line: Option<&[u8]>,
@@ -173,8 +175,8 @@ fn inside<M: Mix, W: Ledger, V: Ledger>(
     requires short { IfSome line (λ l. length l.now ≤ 1048576) }
     requires room { block.lines < 2 ^ 64 - 1 }
     requires ready { IsReady store.old block.batch }
-    ensures { (A : Around) (s : State) (change : script.Change) (body : List Line) → IsSound s → IsBlock s change body store.old block
-        → MeetsLine A (Inside (script.Triples change) body) (lent_line line.entry) s store.new result.0 result.1 }
+    ensures { (s : State) (change : script.Change) (body : List Line) → IsSound M.mixed s → IsBlock s change body store.old block
+        → MeetsLine (around M.mixed settings None) (Inside (script.Triples change) body) (lent_line line.entry) s store.new result.0 result.1 }
 {
     if ends(line) {
         let Block { lines: _, batch } = block;
@@ -201,6 +203,7 @@ fn tell<K: Sink>(out: &mut Out<'_, K>, answer: Option<Answer>) -> Outcome
 /// Takes a line, and passes on the answer of the command that it ends.
 pub fn take_line<M: Mix, K: Sink, W: Ledger, V: Ledger>(
     alloc: Global,
+    settings: Settings,
     store: &mut Store<M>,
     place: Place,
     line: Option<&[u8]>,
@@ -210,11 +213,11 @@ pub fn take_line<M: Mix, K: Sink, W: Ledger, V: Ledger>(
 ) -> (Place, Outcome)
     requires short { IfSome line (λ l. length l.now ≤ 1048576) }
     requires room { lines_in place < 2 ^ 64 - 1 }
-    requires ready { IsReadyAt store.old place }
+    requires ready { IsReadyAt M.mixed store.old place }
     requires empty { out.old.buffer ≡ [] }
     ensures same_sink { out.new.sink.ghost_name ≡ out.old.sink.ghost_name }
-    ensures takes { (A : Around) (p : Position) (s : State) → IsSound s → IsAt p s store.old place
-        → TakesLine A p (lent_line line.entry) s store.new result.0 (K.written out.old.sink.now) (K.written out.new.sink.now) result.1 }
+    ensures takes { (p : Position) (s : State) → IsSound M.mixed s → IsAt p s store.old place
+        → TakesLine (around M.mixed settings None) p (lent_line line.entry) s store.new result.0 (K.written out.old.sink.now) (K.written out.new.sink.now) result.1 }
     ensures empty { IsPassedOn result.1 out.new }
     ensures cause { HasOutcome (K.faults out.old.sink.now) (K.faults out.new.sink.now) result.1 }
 {
@@ -224,7 +227,7 @@ pub fn take_line<M: Mix, K: Sink, W: Ledger, V: Ledger>(
             (next, tell(out, answer))
         }
         Place::Inside(block) => {
-            let (next, answer) = inside(alloc, store, block, line, scratch, counts);
+            let (next, answer) = inside(alloc, settings, store, block, line, scratch, counts);
             (next, tell(out, answer))
         }
     }

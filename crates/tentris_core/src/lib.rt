@@ -7,6 +7,7 @@ mod block;
 mod counts;
 mod outcome;
 mod running;
+mod settings;
 
 pub use answer::Answer;
 pub use running::{MAX_BYTES, Status, run};

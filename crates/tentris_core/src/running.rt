@@ -2,15 +2,14 @@
 //!
 //! The script is read line by line; each command is carried out whole, or refused, and its answer passed on whole
 //! before the next line is read.
-ghost use Rattle.std.specs.Prelude.{◌≡◌, ◌≤◌, ◌<◌, [], length, IfSome, ◌↔◌, ◌≢◌};
+ghost use Rattle.std.specs.Prelude.{◌≡◌, ◌≤◌, ◌<◌, [], length, IfSome, ◌↔◌, ◌≢◌, None, false};
 ghost use Rattle.tn_io.specs.Causes.{Rose};
 ghost use Rattle.tn_io.specs.CutterState.{line_told};
 ghost use Rattle.tentris_core.specs.Batches.{lent_line};
 ghost use Rattle.tentris_core.specs.Places.{Position, IsAt, IsReadyAt};
-ghost use Rattle.tentris_core.specs.Carrying.{IsSound, alone};
+ghost use Rattle.tentris_core.specs.Carrying.{IsSound, around};
 ghost use Rattle.graph_store.specs.State.{State, IsSettled};
 ghost use Rattle.graph_store.specs.Stands.{Stands};
-ghost use Rattle.trie_context.specs.Kept.{AreKept};
 ghost use Rattle.tentris_core.specs.Runs.{Ends};
 ghost use Rattle.tentris_core.specs.Endings.{Finishes};
 ghost use Rattle.script_read.specs.ScriptState.{at_start};
@@ -19,6 +18,7 @@ use crate::answer::Answer;
 use crate::block::{Block, Place, take_line};
 use crate::counts::Counts;
 use crate::outcome::{Outcome, pass_on};
+use crate::settings::Settings;
 use answer_text::Refusal;
 use graph_store::Store;
 use rdf_term::Scratch;
@@ -88,7 +88,7 @@ fn finish<M: Mix, K: Sink>(
     store: &mut Store<M>,
     out: &mut Out<'_, K>,
 ) -> Status
-    requires ready { IsReadyAt store.old place }
+    requires ready { IsReadyAt M.mixed store.old place }
     requires empty { out.old.buffer ≡ [] }
     ensures same_sink { out.new.sink.ghost_name ≡ out.old.sink.ghost_name }
     ensures store { (p : Position) (s : State) → IsAt p s store.old place → store.new ≡ s }
@@ -119,6 +119,7 @@ fn finish<M: Mix, K: Sink>(
 // Carries out the script, from its first line on.
 fn carry_out<M: Mix, S: Source, K: Sink, W: Ledger, V: Ledger>(
     alloc: Global,
+    settings: Settings,
     script: &mut Script,
     scratch: &mut Scratch,
     store: &mut Store<M>,
@@ -126,12 +127,13 @@ fn carry_out<M: Mix, S: Source, K: Sink, W: Ledger, V: Ledger>(
     out: &mut Out<'_, K>,
     counts: &mut Counts<W, V>,
 ) -> Status
-    requires start { script.old ≡ at_start MAX_BYTES }
-    requires sound { IsSound store.old }
+    requires start { script.old ≡ at_start settings.most_bytes }
+    requires few { settings.most_bytes ≤ 1099511627776 }
+    requires sound { IsSound M.mixed store.old }
     requires empty { out.old.buffer ≡ [] }
     ensures same_sink { out.new.sink.ghost_name ≡ out.old.sink.ghost_name }
-    ensures ends { Ends result (alone MAX_BYTES) store.old store.new (S.left source.old) (S.left source.new) (K.written out.old.sink.now) (K.written out.new.sink.now) }
-    ensures sound { IsSound store.new }
+    ensures ends { Ends result (around M.mixed settings None) store.old store.new (S.left source.old) (S.left source.new) (K.written out.old.sink.now) (K.written out.new.sink.now) }
+    ensures sound { IsSound M.mixed store.new }
     ensures accepted { result ≢ Status.BadWords }
     ensures later_read { S.faults source.old ≤ S.faults source.new }
     ensures later_write { K.faults out.old.sink.now ≤ K.faults out.new.sink.now }
@@ -154,7 +156,7 @@ fn carry_out<M: Mix, S: Source, K: Sink, W: Ledger, V: Ledger>(
             }
         };
         let line = told_line(cut, script);
-        let (next, outcome) = take_line(alloc, store, place, line, scratch, counts, out);
+        let (next, outcome) = take_line(alloc, settings, store, place, line, scratch, counts, out);
         place = next;
         match outcome {
             Outcome::GoesOn => {}
@@ -170,28 +172,30 @@ fn carry_out<M: Mix, S: Source, K: Sink, W: Ledger, V: Ledger>(
 // Carries out the script with buffers and counters of its own.
 fn run_script<M: Mix, S: Source, K: Sink, W: Ledger, V: Ledger>(
     alloc: Global,
+    settings: Settings,
     store: &mut Store<M>,
     source: &mut S,
     sink: &mut K,
     interns: Blank,
     retains: Blank,
 ) -> Status
-    requires sound { IsSound store.old }
+    requires sound { IsSound M.mixed store.old }
+    requires few { settings.most_bytes ≤ 1099511627776 }
     requires name { interns.name ≡ W.name }
     requires parts { interns.parts ≡ W.parts }
     requires whole { 0 < W.parts }
     requires other_name { retains.name ≡ V.name }
     requires other_parts { retains.parts ≡ V.parts }
     requires other_whole { 0 < V.parts }
-    ensures ends { Ends result (alone MAX_BYTES) store.old store.new (S.left source.old) (S.left source.new) (K.written sink.old) (K.written sink.new) }
-    ensures sound { IsSound store.new }
+    ensures ends { Ends result (around M.mixed settings None) store.old store.new (S.left source.old) (S.left source.new) (K.written sink.old) (K.written sink.new) }
+    ensures sound { IsSound M.mixed store.new }
     ensures accepted { result ≢ Status.BadWords }
     ensures later_read { S.faults source.old ≤ S.faults source.new }
     ensures later_write { K.faults sink.old ≤ K.faults sink.new }
     ensures read_fault { result ≡ Status.ReadFault → Rose (S.faults source.old) (S.faults source.new) }
     ensures write_fault { result ≡ Status.WriteFault → Rose (K.faults sink.old) (K.faults sink.new) }
 {
-    let Ok(mut script) = Script::new(alloc, MAX_BYTES) else {
+    let Ok(mut script) = Script::new(alloc, settings.most_bytes) else {
         return Status::Memory;
     };
     let Ok(mut scratch) = Scratch::new(alloc) else {
@@ -204,6 +208,7 @@ fn run_script<M: Mix, S: Source, K: Sink, W: Ledger, V: Ledger>(
     let mut out = Out::new(sink);
     carry_out(
         alloc,
+        settings,
         &mut script,
         &mut scratch,
         store,
@@ -226,10 +231,9 @@ pub fn run<M: Mix, S: Source, K: Sink>(
     sink: &mut K,
 ) -> Status
     requires settled { IsSettled store.old }
-    ensures ends { Ends result (alone MAX_BYTES) store.old store.new (S.left source.old) (S.left source.new) (K.written sink.old) (K.written sink.new) }
+    ensures ends { Ends result (around M.mixed (record { sorted = false; most_bytes = MAX_BYTES }) None) store.old store.new (S.left source.old) (S.left source.new) (K.written sink.old) (K.written sink.new) }
     ensures settled { IsSettled store.new }
-    ensures stands { Stands store.new }
-    ensures kept { AreKept M.mixed store.new.tables }
+    ensures stands { Stands M.mixed store.new }
     ensures words { (result ≡ Status.BadWords) ↔ (0 < length words.now) }
     ensures later_read { S.faults source.old ≤ S.faults source.new }
     ensures later_write { K.faults sink.old ≤ K.faults sink.new }
@@ -243,7 +247,12 @@ pub fn run<M: Mix, S: Source, K: Sink>(
     }
     let interns = Blank::new(1);
     let retains = Blank::new(1);
-    let status = run_script::<M, S, K, Brand, Brand>(alloc, store, source, sink, interns, retains);
+    let settings = Settings {
+        sorted: false,
+        most_bytes: MAX_BYTES,
+    };
+    let status =
+        run_script::<M, S, K, Brand, Brand>(alloc, settings, store, source, sink, interns, retains);
     store.triples();
     status
 }

@@ -8,5 +8,5 @@ pub returns : goal.returns
 returns g c = record {
   count = refl;
   batch = subst (AreStaged c.args.store.now [] c.args.store.now) (sym c.new.ensures)
-      (none_staged c.args.store.now c.requires.settled (subst (λ n. n ≤ most_triples) c.triples.ensures.value c.triples.ensures.few));
+      (none_staged c.args.store.now c.requires (subst (λ n. n ≤ most_triples) c.triples.ensures.value c.triples.ensures.few));
 }

@@ -8,7 +8,7 @@ use Rattle.tentris_core.proofs.BlockLemmas.{ends_it, goes_on, block_step}
 use Rattle.tentris_core.proofs.block.inside.Goals as goal
 
 pub returns-then-ends : goal.returns-then-ends
-returns-then-ends g c = λ A s change body sound h. record {
+returns-then-ends g c = λ s change body sound h. record {
   next = Outside;
   after = c.carry_out-answer.new.store;
   is_at = refl;
@@ -19,7 +19,7 @@ returns-then-ends g c = λ A s change body sound h. record {
       are = ends_it (lent_line c.args.line) (script.Triples change) body c.if-ends.ensures;
       answer = answer_of c.carry_out-answer.result;
       failed = None;
-      carries = block_step A s change body c.carry_out-answer.new.store (answer_of c.carry_out-answer.result) (c.carry_out-answer.ensures s change _ sound h.batch);
+      carries = block_step _ s change body c.carry_out-answer.new.store (answer_of c.carry_out-answer.result) (c.carry_out-answer.ensures s change _ sound h.batch);
     },
     refl,
   );
@@ -27,7 +27,7 @@ returns-then-ends g c = λ A s change body sound h. record {
 }
 
 pub returns : goal.returns
-returns g c = λ A s change body sound h. record {
+returns g c = λ s change body sound h. record {
   next = Inside (script.Triples change) (body ++ lent_line c.args.line ∷ []);
   after = s;
   is_at = c.with_line.ensures s change body h;

@@ -1,7 +1,8 @@
-use Rattle.std.proofs.Common.{subst}
+use Rattle.std.proofs.Common.{subst, sym}
+use Rattle.std.specs.Prelude.{None}
 use Rattle.graph_store.specs.State.{State}
 use Rattle.tentris_core.specs.Batches.{lent_line}
-use Rattle.tentris_core.specs.Carrying.{Around, IsSound}
+use Rattle.tentris_core.specs.Carrying.{around, IsSound}
 use Rattle.tentris_core.specs.Places.{Position, Outside, Inside, IsAt, MeetsLine, TakesLine}
 use Rattle.script_model.specs.Commands.{Triples}
 use Rattle.tentris_core.specs.declared.block.Place.TheVariants as place
@@ -9,15 +10,15 @@ use Rattle.tentris_core.proofs.BlockLemmas.{takes_told}
 use Rattle.tentris_core.proofs.block.take_line.Goals as goal
 
 pub returns-in-Outside-clause-takes : goal.returns-in-Outside-clause-takes
-returns-in-Outside-clause-takes g c = λ A p s sound at.
-    takes_told A p _ s _ _ _ _ _ _ (by A p s (subst (IsAt p s c.args.store.now) c.in-Outside.is at)) c.tell.ensures.text where
-      by : (A : Around) (p : Position) (s : State) → IsAt p s c.args.store.now place.Outside → MeetsLine A p (lent_line c.args.line) s c.args.store.now c.outside-next.result.0 c.outside-next.result.1
-      by A Outside s at = subst (λ z. MeetsLine A Outside (lent_line c.args.line) z c.args.store.now c.outside-next.result.0 c.outside-next.result.1) at (c.outside-next.ensures A)
-      by A (Inside kind body) s at = absurd at
+returns-in-Outside-clause-takes g c = λ p s sound at.
+    takes_told _ p _ s _ _ _ _ _ _ (by p s sound (subst (IsAt p s c.args.store.now) c.in-Outside.is at)) c.tell.ensures.text where
+      by : (p : Position) (s : State) → IsSound g.M.Mix.mixed s → IsAt p s c.args.store.now place.Outside → MeetsLine (around g.M.Mix.mixed c.args.settings None) p (lent_line c.args.line) s c.args.store.now c.outside-next.result.0 c.outside-next.result.1
+      by Outside s sound at = subst (λ z. MeetsLine (around g.M.Mix.mixed c.args.settings None) Outside (lent_line c.args.line) z c.args.store.now c.outside-next.result.0 c.outside-next.result.1) at (c.outside-next.ensures _ (subst (IsSound g.M.Mix.mixed) (sym at) sound))
+      by (Inside kind body) s sound at = absurd at
 
 pub returns-in-Inside-clause-takes : goal.returns-in-Inside-clause-takes
-returns-in-Inside-clause-takes g c = λ A p s sound at.
-    takes_told A p _ s _ _ _ _ _ _ (by A p s sound (subst (IsAt p s c.args.store.now) c.in-Inside.is at)) c.tell-in-Inside.ensures.text where
-      by : (A : Around) (p : Position) (s : State) → IsSound s → IsAt p s c.args.store.now (place.Inside c.in-Inside.block) → MeetsLine A p (lent_line c.args.line) s c.inside-next.new.store c.inside-next.result.0 c.inside-next.result.1
-      by A Outside s sound at = absurd at
-      by A (Inside (Triples change) body) s sound at = c.inside-next.ensures A s change body sound at
+returns-in-Inside-clause-takes g c = λ p s sound at.
+    takes_told _ p _ s _ _ _ _ _ _ (by p s sound (subst (IsAt p s c.args.store.now) c.in-Inside.is at)) c.tell-in-Inside.ensures.text where
+      by : (p : Position) (s : State) → IsSound g.M.Mix.mixed s → IsAt p s c.args.store.now (place.Inside c.in-Inside.block) → MeetsLine (around g.M.Mix.mixed c.args.settings None) p (lent_line c.args.line) s c.inside-next.new.store c.inside-next.result.0 c.inside-next.result.1
+      by Outside s sound at = absurd at
+      by (Inside (Triples change) body) s sound at = c.inside-next.ensures s change body sound at

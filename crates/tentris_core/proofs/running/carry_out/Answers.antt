@@ -1,8 +1,7 @@
 use Rattle.std.proofs.Common.{rules, arith, ◌∙◌, refl, sym, ap, subst}
 use Rattle.std.specs.Prelude.{Ok, Err}
 use Rattle.tentris_core.specs.Puts.{IsPassedOn}
-use Rattle.tentris_core.specs.Carrying.{IsSound, alone}
-use Rattle.tentris_core.specs.declared.running.TheConstants.{MAX_BYTES}
+use Rattle.tentris_core.specs.Carrying.{IsSound}
 use Rattle.tentris_core.proofs.RunLemmas.{ready, run_starts, run_finishes, run_fails, run_too_long, run_line, run_answered, run_cut_off, next_at, takes_at, ends_in, taken_in, front_in, cut_in}
 use Rattle.tentris_core.proofs.running.carry_out.Goals as goal
 
@@ -33,13 +32,13 @@ returns-in-Err-TooLong-clause-ends g c =
 
 pub abandon-requires-in-Cut : goal.abandon-requires-in-Cut
 abandon-requires-in-Cut g c =
-    let taken = takes_at _ _ _ _ c.told_line-line.ensures.line c.in-Cut.is (c.take_line-next.ensures.takes (alone MAX_BYTES) _ _ c.lines.invariant.ran.sound c.lines.invariant.ran.is_at) in
+    let taken = takes_at _ _ _ _ c.told_line-line.ensures.line c.in-Cut.is (c.take_line-next.ensures.takes _ _ c.lines.invariant.ran.sound c.lines.invariant.ran.is_at) in
     record { ready = ready _ _ _ _ taken.leads.0.carries.sound taken.is_at }
 
 pub returns-in-Cut-clause-sound : goal.returns-in-Cut-clause-sound
 returns-in-Cut-clause-sound g c =
-    let taken = takes_at _ _ _ _ c.told_line-line.ensures.line c.in-Cut.is (c.take_line-next.ensures.takes (alone MAX_BYTES) _ _ c.lines.invariant.ran.sound c.lines.invariant.ran.is_at) in
-    subst IsSound (sym (c.abandon-in-Cut.ensures _ _ taken.is_at)) taken.leads.0.carries.sound
+    let taken = takes_at _ _ _ _ c.told_line-line.ensures.line c.in-Cut.is (c.take_line-next.ensures.takes _ _ c.lines.invariant.ran.sound c.lines.invariant.ran.is_at) in
+    subst (IsSound g.M.Mix.mixed) (sym (c.abandon-in-Cut.ensures _ _ taken.is_at)) taken.leads.0.carries.sound
 
 pub lines-preserved-in-GoesOn : goal.lines-preserved-in-GoesOn
 lines-preserved-in-GoesOn g c = record {
@@ -47,7 +46,7 @@ lines-preserved-in-GoesOn g c = record {
   empty = subst (λ o. IsPassedOn o c.take_line-next.new.out) c.in-GoesOn.is c.take_line-next.ensures.empty;
   ran =
       run_line _ _ _ _ _ _ _ _ _ _ c.lines.invariant.ran _ _ c.in-Ok-Some.cut (next_at _ _ (c.in-Ok-Some.is ∙ ap Ok c.in-Ok-Some.field-0-is) c.next_line.ensures.next) _ _ _
-      (takes_at _ _ _ _ c.told_line-line.ensures.line c.in-GoesOn.is (c.take_line-next.ensures.takes _ _ _ c.lines.invariant.ran.sound c.lines.invariant.ran.is_at));
+      (takes_at _ _ _ _ c.told_line-line.ensures.line c.in-GoesOn.is (c.take_line-next.ensures.takes _ _ c.lines.invariant.ran.sound c.lines.invariant.ran.is_at));
   read_faults = search rules;
   write_faults = omega (arith, c.take_line-next.ensures.cause.later, c.lines.invariant.write_faults);
 }
@@ -58,13 +57,13 @@ lines-preserved g c = record {
   empty = subst (λ o. IsPassedOn o c.take_line-next.new.out) c.in-Answered.is c.take_line-next.ensures.empty;
   ran =
       run_answered _ _ _ _ _ _ _ _ _ _ c.lines.invariant.ran _ _ c.in-Ok-Some.cut (next_at _ _ (c.in-Ok-Some.is ∙ ap Ok c.in-Ok-Some.field-0-is) c.next_line.ensures.next) _ _ _ _ c.in-Answered.refusal refl
-      (takes_at _ _ _ _ c.told_line-line.ensures.line c.in-Answered.is (c.take_line-next.ensures.takes _ _ _ c.lines.invariant.ran.sound c.lines.invariant.ran.is_at));
+      (takes_at _ _ _ _ c.told_line-line.ensures.line c.in-Answered.is (c.take_line-next.ensures.takes _ _ c.lines.invariant.ran.sound c.lines.invariant.ran.is_at));
   read_faults = search rules;
   write_faults = omega (arith, c.take_line-next.ensures.cause.later, c.lines.invariant.write_faults);
 }
 
 pub returns-in-Cut-clause-ends : goal.returns-in-Cut-clause-ends
 returns-in-Cut-clause-ends g c =
-    let taken = takes_at _ _ _ _ c.told_line-line.ensures.line c.in-Cut.is (c.take_line-next.ensures.takes _ _ _ c.lines.invariant.ran.sound c.lines.invariant.ran.is_at) in
+    let taken = takes_at _ _ _ _ c.told_line-line.ensures.line c.in-Cut.is (c.take_line-next.ensures.takes _ _ c.lines.invariant.ran.sound c.lines.invariant.ran.is_at) in
     cut_in (c.abandon-in-Cut.ensures _ _ taken.is_at)
     (run_cut_off _ _ _ _ _ _ _ _ _ _ c.lines.invariant.ran _ _ c.in-Ok-Some.cut (next_at _ _ (c.in-Ok-Some.is ∙ ap Ok c.in-Ok-Some.field-0-is) c.next_line.ensures.next) _ _ _ taken)

@@ -13,6 +13,6 @@ use Rattle.tentris_core.proofs.batch.Batch.carry_out.Goals as goal
 
 pub returns-in-Refused : goal.returns-in-Refused
 returns-in-Refused g c = λ s change said sound h. by s change said sound (subst (IsBatch s change said c.args.store.now) c.in-Refused.is h) where
-  by : (s : State) (change : script.Change) (said : List Saying) → IsSound s → IsBatch s change said c.args.store.now (Refused c.in-Refused.cause) → ChangesStore s change said c.args.store.now (answer_of (answer.Refused c.in-Refused.cause))
-  by s script.Inserts said sound h = refused_batch s script.Inserts said sound c.args.store.now c.in-Refused.cause h.0 h.1
-  by s script.Deletes said sound h = refused_batch s script.Deletes said sound c.args.store.now c.in-Refused.cause h.0 h.1
+  by : (s : State) (change : script.Change) (said : List Saying) → IsSound g.M.Mix.mixed s → IsBatch s change said c.args.store.now (Refused c.in-Refused.cause) → ChangesStore g.M.Mix.mixed s change said c.args.store.now (answer_of (answer.Refused c.in-Refused.cause))
+  by s script.Inserts said sound h = refused_batch _ s script.Inserts said sound c.args.store.now c.in-Refused.cause h.0 h.1
+  by s script.Deletes said sound h = refused_batch _ s script.Deletes said sound c.args.store.now c.in-Refused.cause h.0 h.1

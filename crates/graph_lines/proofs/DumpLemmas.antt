@@ -1,10 +1,10 @@
 -- The lines of a set of known triples of Ids are the lines of the graph that it stands for.
-use Rattle.std.specs.Prelude.{◌≡◌, ℕ, ◌&&◌, ◌||◌, true, List, [], ◌∷◌, ◌++◌}
+use Rattle.std.specs.Prelude.{◌≡◌, ℕ, ◌||◌, true, List, [], ◌∷◌, ◌++◌}
 use Rattle.std.specs.Prelude.{map as each}
 use Rattle.std.proofs.Common.{refl, sym, ◌∙◌, ap, subst, append_assoc}
 use Rattle.std.proofs.lemmas.List.{length-map}
 use Rattle.std.specs.FinSet as set
-use Rattle.std.specs.List.{list_any, list_all}
+use Rattle.std.specs.List.{list_any}
 use Rattle.std.specs.Ordering.{eq_by_cmp, nat_cmp}
 use Rattle.std.specs.Cmp.Lexicographic.{slice_cmp}
 use Rattle.hypertrie_model.specs.IdSets.{IdSet}
@@ -16,16 +16,9 @@ use Rattle.rdf_model.specs.Texts.{dump_line}
 use Rattle.rdf_model.specs.Dumps.{AreTriplesOf}
 use Rattle.term_dict.specs.Dict.{Terms, IsOneToOne}
 use Rattle.set_image.specs.ImageLaws.{image-from_list}
-use Rattle.tuple_image.specs.TupleImages.{IsOver}
 use Rattle.graph_image.specs.Images.{triple_at, graph_of, IsKnown, AreKnown}
 use Rattle.graph_image.specs.ImageLaws.{tuples_total, tuples_exact, graph_of-empty, len-graph_of}
-use Rattle.graph_lines.specs.Walks.{AddsTexts, has_id, line_behind}
-
--- known triples have known Ids
-pub known_ids : (terms : Terms) (H : IdSet) → AreKnown terms H → IsOver (has_id terms) H
-known_ids terms H known t there =
-    let k = known t there in
-    ap (list_all (has_id terms)) k.is ∙ (λ i. k.subject i && (k.predicate i && (k.object i && true)))
+use Rattle.graph_lines.specs.Walks.{AddsTexts, line_behind}
 
 module _ (terms : Terms) where
   line_known : (t : List ℕ) → IsKnown terms t → line_behind terms [] t ≡ dump_line (triple_at terms t)

@@ -40,10 +40,11 @@ use Rattle.rdf_model.specs.MemberLaws.{members_in_order, members_image}
 use Rattle.graph_shape.specs.GraphShapes.{GraphRow, tuple_of, tuples_of, member_text, row_line, has_line, line_rows, shape_lines}
 use Rattle.graph_image.specs.Images.{term_at, triple_at, graph_of, AreKnown}
 use Rattle.graph_image.specs.ImageLaws.{get_is, tuples_total, tuples_exact}
-use Rattle.graph_lines.specs.Walks.{AddsTexts, key_set, has_id, member_behind, row_read, row_text}
+use Rattle.graph_view.specs.Read.{has_id}
+use Rattle.graph_view.specs.ReadLaws.{known_ids}
+use Rattle.graph_lines.specs.Walks.{AddsTexts, key_set, member_behind, row_read, row_text}
 use Rattle.graph_lines.proofs.WalkLemmas.{members_under, members_union}
 use Rattle.graph_lines.proofs.MemberLemmas.{added_as}
-use Rattle.graph_lines.proofs.DumpLemmas.{known_ids}
 
 -- no two Ids of the dictionary have one term
 pub lone_ids : (terms : Terms) → IsOneToOne terms → IsOneToOneWhere (has_id terms) (term_at terms)

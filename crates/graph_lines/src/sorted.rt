@@ -11,9 +11,7 @@ use trie_depth::Memory;
 
 /// The texts as lines, in the order of their bytes.
 pub(crate) fn sorted_lines(alloc: Global, texts: Vec<Text>) -> Result<Lines, Memory>
-    ensures each { IfOk result (λ lines. IsPermutation texts.items lines) }
-    ensures sorted { IfOk result (λ lines. IsSorted (slice_cmp nat_cmp) lines) }
-    ensures order { IfOk result (λ lines. lines ≡ in_order texts.items) }
+    ensures { IfOk result (λ lines. lines ≡ in_order texts.items) }
 {
     let mut texts = texts;
     texts.sort_unstable();

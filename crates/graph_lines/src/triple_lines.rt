@@ -4,12 +4,13 @@ ghost use Rattle.std.specs.Ordering.{nat_cmp};
 ghost use Rattle.hypertrie_model.specs.Sets.{empty};
 ghost use Rattle.rdf_model.specs.Terms as model;
 ghost use Rattle.rdf_model.specs.Texts.{canon, dump_line};
-ghost use Rattle.rdf_model.specs.Dumps.{AreDumpLines, AreTriplesOf};
+ghost use Rattle.rdf_model.specs.Dumps.{AreTriplesOf, dump_lines};
 ghost use Rattle.rdf_term.specs.Seen.{lent_term};
 ghost use Rattle.term_dict.specs.Dict.{IsOneToOne};
 ghost use Rattle.tuple_image.specs.TupleImages.{IsOver};
 ghost use Rattle.graph_image.specs.Images.{graph_of, AreKnown};
-ghost use Rattle.graph_lines.specs.Walks.{AddsTexts, has_id, line_behind, set_in};
+ghost use Rattle.graph_view.specs.Read.{has_id, set_in};
+ghost use Rattle.graph_lines.specs.Walks.{AddsTexts, line_behind};
 
 use crate::sorted::sorted_lines;
 use rdf_term::{TermRef, canon_text};
@@ -102,7 +103,7 @@ pub(crate) fn lines_of<O: Operand>(
     requires deep { IfSome graph (λ g. O.depth_of g ≡ 3) }
     requires known { AreKnown dict.now (set_in O.tuples graph) }
     requires one { IsOneToOne dict.now }
-    ensures { IfOk result (λ lines. AreDumpLines (graph_of dict.now (set_in O.tuples graph)) lines) }
+    ensures { IfOk result (λ lines. lines ≡ dump_lines (graph_of dict.now (set_in O.tuples graph))) }
 {
     sorted_lines(alloc, texts::<O, Brand>(alloc, graph, dict, Blank::new(1))?)
 }

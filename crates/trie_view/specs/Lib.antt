@@ -2,3 +2,4 @@ pub mod Places
 pub mod EdgesAt
 pub mod PlaceLaws
 pub mod Subs
+pub mod RootLaws

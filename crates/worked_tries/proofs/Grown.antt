@@ -16,14 +16,12 @@ use Rattle.hypertrie_model.specs.ChangeLaws.{has-after_in}
 use Rattle.trie_depth.specs.declared.id.Trip.{Trip}
 use Rattle.trie_depth.specs.Tuples.{trip_tuple}
 use Rattle.trie_context.specs.declared.root.Root.{Root}
-use Rattle.trie_context.specs.declared.root.Root.TheVariants.{Empty, One, Many}
+use Rattle.trie_context.specs.declared.root.Root.TheVariants.{Empty}
 use Rattle.trie_context.specs.declared.tables.Tables.{Tables}
 use Rattle.trie_context.specs.Rows.{no_tables, row_of}
 use Rattle.trie_context.specs.Holds.{count_of}
 use Rattle.trie_context.specs.RowLaws.{empty_at}
-use Rattle.trie_context.specs.Roots.{root_set, IsHeld}
-use Rattle.trie_context.specs.MoveLaws.{held_there}
-use Rattle.trie_view.specs.Places.{IsRootThere}
+use Rattle.trie_context.specs.Roots.{root_set}
 use Rattle.trie_update.specs.Batches.{IsOnce}
 use Rattle.trie_update.specs.BatchLaws.{order_once}
 
@@ -37,11 +35,6 @@ module _ (t : Tables) (root : Root) (A : IdSet) (none : root ≡ Empty) where
 
   pub all_put : set.union (root_set t root) A ≡ A
   all_put = ap (λ r. set.union (root_set t r) A) none ∙ same_sets total exact _ _ (λ u. has-after_in total exact (empty nat_cmp) A u ∙ ap (λ b. b || has A u) (set.contains-empty (slice_cmp nat_cmp) u))
-
-pub held_root_there : (t : Tables) (root : Root) → IsHeld t root → IsRootThere t root
-held_root_there t Empty held = tt
-held_root_there t (One triple) held = tt
-held_root_there t (Many row) held = held_there t 3 row held
 
 abbrev pub trip : ℕ → ℕ → ℕ → Trip
 trip a b c = record { 0 = record { 0 = a }; 1 = record { 0 = b }; 2 = record { 0 = c } }

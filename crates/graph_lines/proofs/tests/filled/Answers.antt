@@ -2,9 +2,10 @@ use Rattle.std.proofs.Common.{◌∙◌, arith, sym, ap, subst}
 use Rattle.std.specs.FinSet as set
 use Rattle.trie_depth.specs.Tuples.{trip_tuple}
 use Rattle.trie_context.specs.Roots.{root_set}
-use Rattle.trie_context.specs.Kept.{AreKept}
+use Rattle.trie_context.specs.RootShape.{changed_shape}
 use Rattle.trie_context.specs.Shape.{HasShape}
 use Rattle.trie_update.specs.Batches.{set_of_entries}
+use Rattle.trie_view.specs.RootLaws.{held_root_there}
 use Rattle.graph_image.specs.Images.{AreKnown}
 use Rattle.graph_lines.proofs.TriedLemmas.{counts_none, nothing_held, all_new, union_none}
 use Rattle.graph_lines.proofs.tests.filled.Goals as goal
@@ -20,20 +21,16 @@ grow-requires-clause-size g c =
     let same = ap set.len (union_none c.args.context.now c.requires.tables c.args.root.now c.requires.root (set_of_entries trip_tuple c.args.triples.now)) in
     omega (arith, c.requires.once, c.requires.few, same)
 
-pub dump-requires-clause-kept : goal.dump-requires-clause-kept
-dump-requires-clause-kept g c = (_, subst (AreKept _) (sym c.tables.ensures.same) c.tables.ensures.kept)
+pub of-requires-clause-there : goal.of-requires-clause-there
+of-requires-clause-there g c = held_root_there c.grow.new.context c.grow.new.root c.grow.ensures.held
 
-pub dump-requires-clause-known : goal.dump-requires-clause-known
-dump-requires-clause-known g c =
-    let set_is = c.in_ok-grow.ensures.set ∙ union_none c.args.context.now c.requires.tables c.args.root.now c.requires.root (set_of_entries trip_tuple c.args.triples.now) in
-    subst (AreKnown c.args.dict.now) (sym (ap (λ t. root_set t c.grow.new.root) c.tables.ensures.same ∙ set_is)) c.requires.known
+pub of-requires-clause-known : goal.of-requires-clause-known
+of-requires-clause-known g c =
+    subst (AreKnown c.args.dict.now) (sym (c.in_ok-grow.ensures.set ∙ union_none c.args.context.now c.requires.tables c.args.root.now c.requires.root (set_of_entries trip_tuple c.args.triples.now))) c.requires.known
 
-pub shape_lines-requires-clause-kept : goal.shape_lines-requires-clause-kept
-shape_lines-requires-clause-kept g c = (_, subst (AreKept _) (sym c.tables-2.ensures.same) c.tables-2.ensures.kept)
-
-pub shape_lines-requires-clause-shape : goal.shape_lines-requires-clause-shape
-shape_lines-requires-clause-shape g c =
+pub shape_lines-requires : goal.shape_lines-requires
+shape_lines-requires g c =
     let H = root_set c.grow.new.context c.grow.new.root in
     let set_is = c.in_ok-grow.ensures.set ∙ union_none c.args.context.now c.requires.tables c.args.root.now c.requires.root (set_of_entries trip_tuple c.args.triples.now) in
-    let shape = c.in_ok-grow.ensures.shape (nothing_held c.args.context.now c.requires.tables c.args.root.now c.requires.root) in
-    (H, subst (λ t. HasShape t H) (sym c.tables-2.ensures.same) shape, subst (AreKnown c.args.dict.now) (sym set_is) c.requires.known)
+    let shape = changed_shape g.M.Mix.mixed c.args.context.now c.grow.new.context c.args.root.now c.grow.new.root c.in_ok-grow.ensures.moved (nothing_held c.args.context.now c.requires.tables c.args.root.now c.requires.root) in
+    record { shape = (H, subst (λ t. HasShape t H) (sym c.of-2.ensures.tables) shape, subst (λ terms. AreKnown terms H) (sym c.of-2.ensures.terms) (subst (AreKnown c.args.dict.now) (sym set_is) c.requires.known)) }

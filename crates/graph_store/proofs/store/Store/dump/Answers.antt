@@ -1,11 +1,16 @@
-use Rattle.std.proofs.Common.{sym, subst}
-use Rattle.trie_context.specs.Kept.{AreKept}
-use Rattle.trie_context.specs.Roots.{IsHeld}
-use Rattle.graph_store.proofs.RootLemmas.{root_held}
+use Rattle.std.proofs.Common.{◌≡◌, IfOk, subst}
+use Rattle.std.proofs.lemmas.Result.{IfOk-weaker}
+use Rattle.rdf_model.specs.Texts.{dump_line}
+use Rattle.rdf_model.specs.Graph.{Graph, triples_total, exact_triples}
+use Rattle.rdf_model.specs.Dumps.{dump_lines}
+use Rattle.rdf_model.specs.MemberLaws.{sorted_texts_only}
+use Rattle.graph_image.specs.Images.{graph_of}
+use Rattle.graph_store.specs.State.{graph}
 use Rattle.graph_store.proofs.store.Store.dump.Goals as goal
 
-pub dump-requires-clause-kept : goal.dump-requires-clause-kept
-dump-requires-clause-kept g c = (g.M.Mix.mixed, subst (AreKept g.M.Mix.mixed) (sym c.tables.ensures.same) c.tables.ensures.kept)
+pub returns-clause-value : goal.returns-clause-value
+returns-clause-value g c = subst (λ (G : Graph). IfOk c.dump.result (λ lines. lines ≡ dump_lines G)) (λ j. graph_of (c.view.ensures.terms j) (c.view.ensures.triples j)) c.dump.ensures
 
-pub dump-requires-clause-held : goal.dump-requires-clause-held
-dump-requires-clause-held g c = subst (λ t. IsHeld t c.self.inside.root) (sym c.tables.ensures.same) (root_held c.self.inside.ctx c.self.inside.root c.self.invariant.only)
+pub returns-clause-sorted : goal.returns-clause-sorted
+returns-clause-sorted g c =
+    IfOk-weaker c.dump.result _ _ (λ lines e. (sorted_texts_only triples_total exact_triples dump_line (graph c.args.self.now) lines).1 e) (returns-clause-value g c)

@@ -139,7 +139,7 @@ unfolding figures_of
 figures_triples G = refl
 
 pub figures_terms : (G : Graph) → set.len (terms_of G) ≡ (figures_of G).terms
-unfolding figures_of terms_of
+unfolding figures_of
 figures_terms G = refl
 
 pub figures_two : (G : Graph) → rows_in G (set.len (two term_cmp (tuples_of G))) ≡ (figures_of G).two

@@ -11,8 +11,8 @@ use Rattle.ntriples_model.specs.Terminals.{iri_at, string_at, label_at, tag_at}
 use Rattle.text_lines.specs.Blanks.{is_blank, after_blanks}
 use Rattle.rdf_model.specs.Texts.{xsd_string}
 use Rattle.ntriples_model.specs.Line.{scoped, made, or_else, is_note, subject_at, predicate_at, kind_at, literal_at, object_at, is_end, triple_of, triple_at, some_triple, form_at, said}
-use Rattle.ntriples.specs.declared.place.Place.{Place}
-use Rattle.ntriples.specs.declared.place.Place.TheVariants.{Iri, Blank, Plain, Typed, Tagged}
+use Rattle.ntriples.specs.declared.place.TermPlace.{TermPlace}
+use Rattle.ntriples.specs.declared.place.TermPlace.TheVariants.{Iri, Blank, Plain, Typed, Tagged}
 use Rattle.ntriples.specs.Places.{text_at, term_at, IsWithin, ReadsText, ReadsTerm, scoped_label_at}
 use Rattle.ntriples.proofs.PlaceLemmas.{text_at-append, text_at-last, term_at-append, within_more}
 
@@ -24,7 +24,7 @@ place_within : (spare : ℕ) (found : Option (Text × Text)) (bytes : Text) (old
 place_within spare found bytes old new place rest r = omega (arith, ap length r.texts, r.place_is, length-append old (r.text ∷ []))
 
 -- a term of one text
-one_text : (spare : ℕ) (at : Option (Text × Text)) (found : Option (model.Term × Text)) (bytes : Text) (old new : List Text) (place : ℕ) (rest : Text) (what : ℕ → Place) (make : Text → model.Term)
+one_text : (spare : ℕ) (at : Option (Text × Text)) (found : Option (model.Term × Text)) (bytes : Text) (old new : List Text) (place : ℕ) (rest : Text) (what : ℕ → TermPlace) (make : Text → model.Term)
     → spare ≤ 64 → ((texts : List Text) (i : ℕ) → term_at texts (what i) ≡ make (text_at texts i)) → ((n i : ℕ) → i < n → IsWithin n (what i))
     → ReadsText spare at bytes old new place rest → found ≡ made make at → ReadsTerm found bytes old new (what place) rest
 one_text spare at found bytes old new place rest what make small meant within r e = record {
@@ -67,7 +67,7 @@ pub no_subject : (scope bytes : Text) → iri_at bytes ≡ None → scoped_label
 unfolding subject_at
 no_subject scope bytes e f = rw e (made_made model.Blank (scoped scope) (label_at bytes) ∙ ap (made model.Blank) f)
 
-pub object_node : (scope bytes : Text) (old new : List Text) (place : Place) (rest : Text) → ReadsTerm (subject_at scope bytes) bytes old new place rest → ReadsTerm (object_at scope bytes) bytes old new place rest
+pub object_node : (scope bytes : Text) (old new : List Text) (place : TermPlace) (rest : Text) → ReadsTerm (subject_at scope bytes) bytes old new place rest → ReadsTerm (object_at scope bytes) bytes old new place rest
 unfolding object_at
 object_node scope bytes old new place rest r = record {
   is = ap (λ z. or_else z (literal_at bytes)) r.is;
@@ -78,7 +78,7 @@ object_node scope bytes old new place rest r = record {
   room = r.room;
 }
 
-pub object_literal : (scope bytes : Text) (old mid new : List Text) (place : Place) (rest : Text) → subject_at scope bytes ≡ None → mid ≡ old → ReadsTerm (literal_at bytes) bytes mid new place rest
+pub object_literal : (scope bytes : Text) (old mid new : List Text) (place : TermPlace) (rest : Text) → subject_at scope bytes ≡ None → mid ≡ old → ReadsTerm (literal_at bytes) bytes mid new place rest
     → ReadsTerm (object_at scope bytes) bytes old new place rest
 unfolding object_at
 object_literal scope bytes old mid new place rest none same r = record {
@@ -141,7 +141,7 @@ literal_plain bytes old new place rest r m n = record {
 }
 
 -- a literal of a form and a second text
-two_texts : (bytes mark : Text) (old mid new : List Text) (form second : ℕ) (rest behind : Text) (at : Option (Text × Text)) (what : ℕ → ℕ → Place) (kind : Text → model.Kind)
+two_texts : (bytes mark : Text) (old mid new : List Text) (form second : ℕ) (rest behind : Text) (at : Option (Text × Text)) (what : ℕ → ℕ → TermPlace) (kind : Text → model.Kind)
     → ((texts : List Text) (i j : ℕ) → term_at texts (what i j) ≡ model.Literal (text_at texts i) (kind (text_at texts j))) → ((n i j : ℕ) → i < n → j < n → IsWithin n (what i j))
     → length mark ≤ length rest → ReadsText 0 (string_at bytes) bytes old mid form rest → ReadsText 0 at mark mid new second behind → kind_at rest ≡ made kind at
     → ReadsTerm (literal_at bytes) bytes old new (what form second) behind
@@ -234,7 +234,7 @@ unfolding triple_at
 triple_read scope bytes after_s after_p after_o s p o es ep eo e = rw (es, ep, eo, e) refl
 
 -- a term stays where further texts come behind its own
-pub term_stays : (found : Option (model.Term × Text)) (bytes : Text) (old new : List Text) (earlier : Place) (place : Place) (rest : Text) → IsWithin (length old) earlier
+pub term_stays : (found : Option (model.Term × Text)) (bytes : Text) (old new : List Text) (earlier : TermPlace) (place : TermPlace) (rest : Text) → IsWithin (length old) earlier
     → ReadsTerm found bytes old new place rest → (term_at new earlier ≡ term_at old earlier) × IsWithin (length new) earlier
 term_stays found bytes old new earlier place rest w r =
     (ap (λ z. term_at z earlier) r.texts ∙ term_at-append old r.more earlier w, within_more (length old) (length new) earlier (omega (arith, ap length r.texts, length-append old r.more)) w)
@@ -244,7 +244,7 @@ match_more None m f g = f m
 match_more (Some v) m f g = g v m
 
 -- three terms and an end are a triple, by the places of the terms
-pub places_read : (scope bytes after_s after_p after_o mid later : Text) (t0 t1 t2 t3 : List Text) (s p o : Place) → ReadsTerm (subject_at scope bytes) bytes t0 t1 s after_s
+pub places_read : (scope bytes after_s after_p after_o mid later : Text) (t0 t1 t2 t3 : List Text) (s p o : TermPlace) → ReadsTerm (subject_at scope bytes) bytes t0 t1 s after_s
     → mid ≡ after_blanks after_s → ReadsTerm (predicate_at mid) mid t1 t2 p after_p → later ≡ after_blanks after_p → ReadsTerm (object_at scope later) later t2 t3 o after_o → is_end after_o ≡ true
     → (triple_at scope bytes ≡ Some (record { s = term_at t3 s; p = term_at t3 p; o = term_at t3 o })) × (IsWithin (length t3) s × IsWithin (length t3) p × IsWithin (length t3) o)
 places_read scope bytes after_s after_p after_o mid later t0 t1 t2 t3 s p o rs em rp el ro e =

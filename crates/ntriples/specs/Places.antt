@@ -5,14 +5,14 @@ use Rattle.rdf_model.specs.Terms.{Text}
 use Rattle.rdf_model.specs.Texts.{xsd_string}
 use Rattle.ntriples_model.specs.Line.{made, scoped}
 use Rattle.ntriples_model.specs.Terminals.{label_at}
-use Rattle.ntriples.specs.declared.place.Place.{Place}
-use Rattle.ntriples.specs.declared.place.Places.{Places}
-use Rattle.ntriples.specs.declared.place.Place.TheVariants.{Iri, Blank, Plain, Typed, Tagged}
+use Rattle.ntriples.specs.declared.place.TermPlace.{TermPlace}
+use Rattle.ntriples.specs.declared.place.TriplePlaces.{TriplePlaces}
+use Rattle.ntriples.specs.declared.place.TermPlace.TheVariants.{Iri, Blank, Plain, Typed, Tagged}
 
 abbrev pub text_at : List Text → ℕ → Text
 text_at texts i = unwrap_or (slice_get texts i) []
 
-abbrev pub term_at : List Text → Place → model.Term
+abbrev pub term_at : List Text → TermPlace → model.Term
 term_at texts (Iri i) = model.Iri (text_at texts i)
 term_at texts (Blank i) = model.Blank (text_at texts i)
 term_at texts (Plain i) = model.Literal (text_at texts i) (model.Typed xsd_string)
@@ -20,7 +20,7 @@ term_at texts (Typed i j) = model.Literal (text_at texts i) (model.Typed (text_a
 term_at texts (Tagged i j) = model.Literal (text_at texts i) (model.Tagged (text_at texts j))
 
 -- the place is one of the first n
-abbrev pub IsWithin : ℕ → Place → Type 0
+abbrev pub IsWithin : ℕ → TermPlace → Type 0
 IsWithin n (Iri i) = i < n
 IsWithin n (Blank i) = i < n
 IsWithin n (Plain i) = i < n
@@ -40,7 +40,7 @@ pub record ReadsText (spare : ℕ) (found : Option (Text × Text)) (bytes : Text
   pub room : length text + length rest ≤ length bytes + spare
 
 -- A term was found at the front of some bytes: its texts stand behind the old ones, at most two of them.
-pub record ReadsTerm (found : Option (model.Term × Text)) (bytes : Text) (old new : List Text) (place : Place) (rest : Text) : Type 0 where
+pub record ReadsTerm (found : Option (model.Term × Text)) (bytes : Text) (old new : List Text) (place : TermPlace) (rest : Text) : Type 0 where
   pub is : found ≡ Some (term_at new place, rest)
   pub more : List Text
   pub texts : new ≡ old ++ more
@@ -49,8 +49,8 @@ pub record ReadsTerm (found : Option (model.Term × Text)) (bytes : Text) (old n
   pub room : sum_by length more + length rest ≤ length bytes + 64
 
 -- the triple of three terms by their places
-abbrev pub triple_at_places : List Text → Places → model.Triple
+abbrev pub triple_at_places : List Text → TriplePlaces → model.Triple
 triple_at_places texts t = record { s = term_at texts t.s; p = term_at texts t.p; o = term_at texts t.o }
 
-abbrev pub AreWithin : ℕ → Places → Type 0
+abbrev pub AreWithin : ℕ → TriplePlaces → Type 0
 AreWithin n t = IsWithin n t.s × IsWithin n t.p × IsWithin n t.o

@@ -5,7 +5,7 @@ ghost use Rattle.text_lines.specs.Blanks as blanks;
 ghost use Rattle.ntriples_model.specs.Line.{subject_at, predicate_at, literal_at, object_at, triple_at};
 ghost use Rattle.ntriples.specs.Places.{ReadsTerm, triple_at_places, AreWithin};
 
-use crate::place::{Place, Places};
+use crate::place::{TermPlace, TriplePlaces};
 use crate::terminal::{iri, label, string, tag};
 use bstr::ByteSlice;
 use rdf_term::Scratch;
@@ -58,7 +58,7 @@ fn is_end(bytes: &[u8]) -> bool
 }
 
 /// subject ::= IRIREF | BLANK_NODE_LABEL
-fn subject<'l>(bytes: &'l [u8], scope: &str, to: &mut Scratch) -> Option<(Place, &'l [u8])>
+fn subject<'l>(bytes: &'l [u8], scope: &str, to: &mut Scratch) -> Option<(TermPlace, &'l [u8])>
     requires count { length to.old ≤ 6 }
     requires room { sum_by length to.old + length bytes.now + 64 ≤ 2098176 }
     requires scope { length scope.now ≤ 64 }
@@ -66,25 +66,25 @@ fn subject<'l>(bytes: &'l [u8], scope: &str, to: &mut Scratch) -> Option<(Place,
         (λ r. ReadsTerm (subject_at scope.now bytes.now) bytes.now to.old to.new r.0 r.1.now) }
 {
     if let Some((text, rest)) = iri(bytes, to) {
-        return Some((Place::Iri(text), rest));
+        return Some((TermPlace::Iri(text), rest));
     }
     let (label, rest) = label(bytes, scope, to)?;
-    Some((Place::Blank(label), rest))
+    Some((TermPlace::Blank(label), rest))
 }
 
 /// predicate ::= IRIREF
-fn predicate<'l>(bytes: &'l [u8], to: &mut Scratch) -> Option<(Place, &'l [u8])>
+fn predicate<'l>(bytes: &'l [u8], to: &mut Scratch) -> Option<(TermPlace, &'l [u8])>
     requires count { length to.old ≤ 6 }
     requires room { sum_by length to.old + length bytes.now ≤ 2098176 }
     ensures { MatchOption result (predicate_at bytes.now ≡ None)
         (λ r. ReadsTerm (predicate_at bytes.now) bytes.now to.old to.new r.0 r.1.now) }
 {
     let (text, rest) = iri(bytes, to)?;
-    Some((Place::Iri(text), rest))
+    Some((TermPlace::Iri(text), rest))
 }
 
 /// literal ::= STRING_LITERAL_QUOTE ('^^' IRIREF | LANGTAG)?
-fn literal<'l>(bytes: &'l [u8], to: &mut Scratch) -> Option<(Place, &'l [u8])>
+fn literal<'l>(bytes: &'l [u8], to: &mut Scratch) -> Option<(TermPlace, &'l [u8])>
     requires count { length to.old ≤ 6 }
     requires room { sum_by length to.old + length bytes.now ≤ 2098176 }
     ensures { MatchOption result (literal_at bytes.now ≡ None)
@@ -97,17 +97,17 @@ fn literal<'l>(bytes: &'l [u8], to: &mut Scratch) -> Option<(Place, &'l [u8])>
             return None;
         }
         let (datatype, rest) = iri(after_blanks(&behind[2..]), to)?;
-        return Some((Place::Typed(form, datatype), rest));
+        return Some((TermPlace::Typed(form, datatype), rest));
     }
     if byte_at(behind, 0) == b'@' {
         let (tag, rest) = tag(behind, to)?;
-        return Some((Place::Tagged(form, tag), rest));
+        return Some((TermPlace::Tagged(form, tag), rest));
     }
-    Some((Place::Plain(form), rest))
+    Some((TermPlace::Plain(form), rest))
 }
 
 /// object ::= IRIREF | BLANK_NODE_LABEL | literal
-fn object<'l>(bytes: &'l [u8], scope: &str, to: &mut Scratch) -> Option<(Place, &'l [u8])>
+fn object<'l>(bytes: &'l [u8], scope: &str, to: &mut Scratch) -> Option<(TermPlace, &'l [u8])>
     requires count { length to.old ≤ 6 }
     requires room { sum_by length to.old + length bytes.now + 64 ≤ 2098176 }
     requires scope { length scope.now ≤ 64 }
@@ -121,7 +121,7 @@ fn object<'l>(bytes: &'l [u8], scope: &str, to: &mut Scratch) -> Option<(Place, 
 }
 
 /// A triple, of bytes that begin with no blank.
-pub(crate) fn triple(bytes: &[u8], scope: &str, to: &mut Scratch) -> Option<Places>
+pub(crate) fn triple(bytes: &[u8], scope: &str, to: &mut Scratch) -> Option<TriplePlaces>
     requires empty { length to.old ≡ 0 }
     requires bytes { length bytes.now ≤ 1048576 }
     requires scope { length scope.now ≤ 64 }
@@ -134,5 +134,5 @@ pub(crate) fn triple(bytes: &[u8], scope: &str, to: &mut Scratch) -> Option<Plac
     if !is_end(rest) {
         return None;
     }
-    Some(Places { s, p, o })
+    Some(TriplePlaces { s, p, o })
 }

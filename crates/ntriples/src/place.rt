@@ -7,7 +7,7 @@ use rdf_term::{KindRef, Scratch, TermRef, XSD_STRING};
 
 /// A term by the places of its texts.
 #[derive(Clone, Copy, Debug)]
-pub enum Place {
+pub enum TermPlace {
     Iri(usize),
     Blank(usize),
     /// A literal of xsd:string.
@@ -18,20 +18,20 @@ pub enum Place {
     Tagged(usize, usize),
 }
 
-impl Place {
+impl TermPlace {
     /// The term, with its texts lent.
     pub fn term(self, texts: &Scratch) -> TermRef<'_>
         requires { IsWithin (length texts.now) self }
         ensures { lent_term result ≡ term_at texts.now self }
     {
         match self {
-            Place::Iri(text) => TermRef::Iri(texts.text(text)),
-            Place::Blank(label) => TermRef::Blank(texts.text(label)),
-            Place::Plain(form) => { TermRef::Literal(texts.text(form), KindRef::Typed(XSD_STRING)) }
-            Place::Typed(form, datatype) => {
+            TermPlace::Iri(text) => TermRef::Iri(texts.text(text)),
+            TermPlace::Blank(label) => TermRef::Blank(texts.text(label)),
+            TermPlace::Plain(form) => { TermRef::Literal(texts.text(form), KindRef::Typed(XSD_STRING)) }
+            TermPlace::Typed(form, datatype) => {
                 TermRef::Literal(texts.text(form), KindRef::Typed(texts.text(datatype)))
             }
-            Place::Tagged(form, tag) => {
+            TermPlace::Tagged(form, tag) => {
                 TermRef::Literal(texts.text(form), KindRef::Tagged(texts.text(tag)))
             }
         }
@@ -40,8 +40,8 @@ impl Place {
 
 /// A triple by the places of its terms.
 #[derive(Clone, Copy, Debug)]
-pub struct Places {
-    pub s: Place,
-    pub p: Place,
-    pub o: Place,
+pub struct TriplePlaces {
+    pub s: TermPlace,
+    pub p: TermPlace,
+    pub o: TermPlace,
 }

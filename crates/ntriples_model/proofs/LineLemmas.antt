@@ -8,12 +8,12 @@ use Rattle.rdf_model.specs.Terms.{Text, Kind, Typed, Tagged, Term, Iri, Blank, L
 use Rattle.ntriples_model.specs.Terminals.{IsIriRef, IsStringLiteral, IsBlankNodeLabel, IsLangTag, iri_at, string_at, label_at, tag_at}
 use Rattle.text_lines.specs.Blanks.{is_blank, after_blanks}
 use Rattle.rdf_model.specs.Texts.{xsd_string}
-use Rattle.ntriples_model.specs.Line.{scoped, IsBlanks, IsComment, none, comment, Stands, IsSubject, iri_node, blank_node, IsPredicate, iri, IsKind, plain, typed, tagged, IsLiteral, string, IsObject, node, literal, IsEnd, stop, IsForm, nothing, triple, IsLine, is_note, and_then, or_else, made, subject_at, predicate_at, kind_behind, kind_at, literal_at, object_at, is_stop, is_end, triple_of, triple_at, some_triple, form_at, said}
+use Rattle.ntriples_model.specs.Line.{scoped, IsBlanks, IsComment, none, comment, StandsBefore, IsSubject, iri_node, blank_node, IsPredicate, iri, IsKind, plain, typed, tagged, IsLiteral, string, IsObject, node, literal, IsEnd, stop, IsForm, nothing, triple, IsLine, is_note, and_then, or_else, made, subject_at, predicate_at, kind_behind, kind_at, literal_at, object_at, is_stop, is_end, triple_of, triple_at, some_triple, form_at, said}
 
 -- A terminal is found exactly where it stands.
 pub record Finds (IsTerminal : Text → Text → Type 0) (at : List ℕ → Option (Text × Text)) : Type 0 where
-  pub standing : (terminal rest text : Text) → Stands IsTerminal terminal rest text → at (terminal ++ rest) ≡ Some (text, rest)
-  pub found : (bytes text rest : Text) → at bytes ≡ Some (text, rest) → (terminal : Text) × (bytes ≡ terminal ++ rest) × Stands IsTerminal terminal rest text
+  pub standing : (terminal rest text : Text) → StandsBefore IsTerminal terminal rest text → at (terminal ++ rest) ≡ Some (text, rest)
+  pub found : (bytes text rest : Text) → at bytes ≡ Some (text, rest) → (terminal : Text) × (bytes ≡ terminal ++ rest) × StandsBefore IsTerminal terminal rest text
 
 -- Blanks
 
@@ -61,13 +61,13 @@ record Front (P : Text → Text → Type 0) (bs rest : Text) : Type 0 where
   is : P front rest
 
 made_front : (IsTerminal : Text → Text → Type 0) (at : List ℕ → Option (Text × Text)) {A : Type 0} (make : Text → A) → Finds IsTerminal at → (bs : Text) (what : A) (rest : Text)
-    → made make (at bs) ≡ Some (what, rest) → (text : Text) × (what ≡ make text) × Front (λ t r. Stands IsTerminal t r text) bs rest
+    → made make (at bs) ≡ Some (what, rest) → (text : Text) × (what ≡ make text) × Front (λ t r. StandsBefore IsTerminal t r text) bs rest
 made_front IsTerminal at make finds bs what rest h =
     let m = made_found make (at bs) (what, rest) h in
     let behind : rest ≡ m.0.1 = ap (λ p. p.1) m.2 in
     let is : what ≡ make m.0.0 = ap (λ p. p.0) m.2 in
     let f = finds.found bs m.0.0 m.0.1 m.1 in
-    (m.0.0, is, subst (λ z. Front (λ t r. Stands IsTerminal t r m.0.0) bs z) (sym behind) (record { front = f.0; bytes = f.1; is = f.2 }))
+    (m.0.0, is, subst (λ z. Front (λ t r. StandsBefore IsTerminal t r m.0.0) bs z) (sym behind) (record { front = f.0; bytes = f.1; is = f.2 }))
 
 subject_found : Finds IsIriRef iri_at → Finds IsBlankNodeLabel label_at → (scope bs : Text) (term : Term) (rest : Text) → subject_at scope bs ≡ Some (term, rest)
     → Front (λ t r. IsSubject scope t r term) bs rest
@@ -147,7 +147,7 @@ literal_found iris strings tags bs term rest h =
     record {
       front = f.0 ++ g.front;
       bytes = f.1 ∙ ap (λ z. f.0 ++ z) g.bytes ∙ sym (append_assoc f.0 g.front rest);
-      is = subst (IsLiteral (f.0 ++ g.front) rest) is (string f.0 g.front rest q.0.0 k.0.0 (subst (λ z. Stands IsStringLiteral f.0 z q.0.0) g.bytes f.2) g.is);
+      is = subst (IsLiteral (f.0 ++ g.front) rest) is (string f.0 g.front rest q.0.0 k.0.0 (subst (λ z. StandsBefore IsStringLiteral f.0 z q.0.0) g.bytes f.2) g.is);
     }
 
 object_found : Finds IsIriRef iri_at → Finds IsStringLiteral string_at → Finds IsBlankNodeLabel label_at → Finds IsLangTag tag_at → (scope bs : Text) (term : Term) (rest : Text)
@@ -289,7 +289,7 @@ plain_kind : (rest : Text) → IsEnd rest → kind_at rest ≡ Some (Typed xsd_s
 unfolding kind_at
 plain_kind rest (stop before behind note b1 b2 c) = ap (kind_behind (before ++ 46 ∷ (behind ++ note))) (skip_blanks before (46 ∷ (behind ++ note)) b1 refl)
 
-typed_kind : FindsTerminals → (before behind t rest datatype : Text) → IsBlanks before → IsBlanks behind → Stands IsIriRef t rest datatype
+typed_kind : FindsTerminals → (before behind t rest datatype : Text) → IsBlanks before → IsBlanks behind → StandsBefore IsIriRef t rest datatype
     → kind_at ((before ++ 94 ∷ 94 ∷ (behind ++ t)) ++ rest) ≡ Some (Typed datatype, rest)
 unfolding kind_at
 typed_kind finds before behind t rest datatype b1 b2 s =
@@ -306,7 +306,7 @@ tag_behind line t rest tag is = rw is.terminal_is refl
 tag_begins : (t tag rest : Text) → IsLangTag t tag → NoBlank (t ++ rest)
 tag_begins t tag rest is = rw is.terminal_is refl
 
-tagged_kind : FindsTerminals → (before t rest tag : Text) → IsBlanks before → Stands IsLangTag t rest tag → kind_at ((before ++ t) ++ rest) ≡ Some (Tagged tag, rest)
+tagged_kind : FindsTerminals → (before t rest tag : Text) → IsBlanks before → StandsBefore IsLangTag t rest tag → kind_at ((before ++ t) ++ rest) ≡ Some (Tagged tag, rest)
 unfolding kind_at
 tagged_kind finds before t rest tag b s =
     ap (λ z. kind_behind ((before ++ t) ++ rest) (after_blanks z)) (append_assoc before t rest)

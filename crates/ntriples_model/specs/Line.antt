@@ -1,7 +1,7 @@
 -- The lines of RDF 1.1 N-Triples (section 7), twice: by the productions, on a whole line and what it says, and as a function
 -- from the front of its bytes. Blanks may stand between any two terminals, and a comment behind the last one.
 -- `specs/Laws.antt` says that the two agree.
-use Rattle.std.specs.Prelude.{◌≡◌, ℕ, Bool, true, false, ◌||◌, List, [], ◌∷◌, ◌++◌, Option, Some, None, ◌==◌, if◌then◌else◌, slice_index, drop, codes, IsUtf8}
+use Rattle.std.specs.Prelude.{◌≡◌, ℕ, Bool, true, false, List, [], ◌∷◌, ◌++◌, Option, Some, None, ◌==◌, if◌then◌else◌, slice_index, drop, codes, IsUtf8}
 use Rattle.std.specs.List.{AllByRecursion}
 use Rattle.std.specs.Str.{is_utf8}
 use Rattle.text_lines.specs.Blanks.{is_blank, after_blanks}
@@ -26,29 +26,29 @@ pub data IsComment : Text → Type 0 where
   comment : (rest : Text) → IsComment (35 ∷ rest)
 
 -- A terminal before the rest of a line: the longest one that begins there.
-pub record Stands (IsTerminal : Text → Text → Type 0) (terminal rest text : Text) : Type 0 where
+pub record StandsBefore (IsTerminal : Text → Text → Type 0) (terminal rest text : Text) : Type 0 where
   pub is : IsTerminal terminal text
   pub longest : (more behind other : Text) → rest ≡ more ++ behind → IsTerminal (terminal ++ more) other → more ≡ []
 
 -- subject ::= IRIREF | BLANK_NODE_LABEL
 pub data IsSubject (scope : Text) : Text → Text → Term → Type 0 where
-  iri_node : (terminal rest text : Text) → Stands IsIriRef terminal rest text → IsSubject scope terminal rest (Iri text)
-  blank_node : (terminal rest text : Text) → Stands IsBlankNodeLabel terminal rest text → IsSubject scope terminal rest (Blank (scoped scope text))
+  iri_node : (terminal rest text : Text) → StandsBefore IsIriRef terminal rest text → IsSubject scope terminal rest (Iri text)
+  blank_node : (terminal rest text : Text) → StandsBefore IsBlankNodeLabel terminal rest text → IsSubject scope terminal rest (Blank (scoped scope text))
 
 -- predicate ::= IRIREF
 pub data IsPredicate : Text → Text → Term → Type 0 where
-  iri : (terminal rest text : Text) → Stands IsIriRef terminal rest text → IsPredicate terminal rest (Iri text)
+  iri : (terminal rest text : Text) → StandsBefore IsIriRef terminal rest text → IsPredicate terminal rest (Iri text)
 
 -- what stands behind a string: nothing, or B '^^' B IRIREF, or B LANGTAG
 pub data IsKind : Text → Text → Kind → Type 0 where
   plain : (rest : Text) → IsKind [] rest (Typed xsd_string)
-  typed : (before behind terminal rest datatype : Text) → IsBlanks before → IsBlanks behind → Stands IsIriRef terminal rest datatype
+  typed : (before behind terminal rest datatype : Text) → IsBlanks before → IsBlanks behind → StandsBefore IsIriRef terminal rest datatype
       → IsKind (before ++ 94 ∷ 94 ∷ (behind ++ terminal)) rest (Typed datatype)
-  tagged : (before terminal rest tag : Text) → IsBlanks before → Stands IsLangTag terminal rest tag → IsKind (before ++ terminal) rest (Tagged tag)
+  tagged : (before terminal rest tag : Text) → IsBlanks before → StandsBefore IsLangTag terminal rest tag → IsKind (before ++ terminal) rest (Tagged tag)
 
 -- literal ::= STRING_LITERAL_QUOTE ('^^' IRIREF | LANGTAG)?
 pub data IsLiteral : Text → Text → Term → Type 0 where
-  string : (terminal behind rest form : Text) (kind : Kind) → Stands IsStringLiteral terminal (behind ++ rest) form → IsKind behind rest kind
+  string : (terminal behind rest form : Text) (kind : Kind) → StandsBefore IsStringLiteral terminal (behind ++ rest) form → IsKind behind rest kind
       → IsLiteral (terminal ++ behind) rest (Literal form kind)
 
 -- object ::= IRIREF | BLANK_NODE_LABEL | literal

@@ -1,12 +1,12 @@
 -- What a line of N-Triples says is a proper triple, and the texts of its terms stand for them.
-use Rattle.std.specs.Prelude.{◌≡◌, true, [], ◌∷◌, ◌++◌, Option, None, Some, refl}
+use Rattle.std.specs.Prelude.{◌≡◌, [], ◌∷◌, ◌++◌, Option, None, Some, refl}
 use Rattle.std.proofs.Common.{inl, inr, arith}
 use Rattle.rdf_model.specs.Terms.{Text, Kind, Typed, Tagged, Term, Iri, Blank, Literal, Triple}
 use Rattle.rdf_model.specs.Texts.{xsd_string}
 use Rattle.ntriples_model.specs.Line.{said, scoped, IsForm, nothing, triple, IsSubject, iri_node, blank_node, IsPredicate, iri, IsObject, node, literal, IsLiteral, string, IsKind, plain, typed, tagged}
 use Rattle.ntriples_model.specs.LineLaw.{SaysAsProductions}
 use Rattle.ntriples_model.specs.Terminals.{IsStringLiteral, IsBlankNodeLabel}
-use Rattle.ntriples_model.specs.TermText.{IsTermText, TextsStand}
+use Rattle.ntriples_model.specs.TermText.{TextsStand}
 use Rattle.ntriples_model.specs.Proper.{IsScope, IsProper, IsProperTriple, MayBeSubject, MayBePredicate, BothTextsStand, LinesSayProperTriples, TextsOfLinesStand}
 
 module _ (stand : TextsStand) where

@@ -1,15 +1,14 @@
 -- Graphs as finite sets of triples. The order only serves to make equal sets equal.
-use Rattle.std.specs.Prelude.{◌≡◌, ℕ, zero, suc, List, [], ◌∷◌, refl, Bool}
+use Rattle.std.specs.Prelude.{◌≡◌, ℕ, zero, suc, List, [], refl}
 use Rattle.std.proofs.Common.{ap, sym, ◌∙◌}
 use Rattle.std.specs.declared.cmp.Ordering.{Ordering}
-use Rattle.std.specs.declared.cmp.Ordering.TheVariants.{Equal}
-use Rattle.std.specs.Ordering.{nat_cmp, ordering_then, then_cmp, on}
+use Rattle.std.specs.Ordering.{nat_cmp, ordering_then}
 use Rattle.std.specs.Cmp.{IsTotalOrder, on_total, nat_cmp_total, then_total}
 use Rattle.std.specs.Cmp.Lexicographic.{slice_cmp, nat_list_cmp_total}
 use Rattle.std.specs.Coded.{Coded, code_by, coded×, coded_ℕ, coded_list}
 use Rattle.std.proofs.lemmas.Map.Lookups.{CmpEqualImpliesEq, exact_unsigned, exact_bytes, exact_pairs}
 use Rattle.std.specs.FinSet as set
-use Rattle.rdf_model.specs.Terms.{Text, Kind, Typed, Tagged, Term, Iri, Blank, Literal, Triple}
+use Rattle.rdf_model.specs.Terms.{Text, Typed, Tagged, Term, Iri, Blank, Literal, Triple}
 
 -- a term by its kind, its text, and what else a literal has
 abbrev pub Parts : Type 0

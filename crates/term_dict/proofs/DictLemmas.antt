@@ -10,7 +10,7 @@ use native.Mathlib.Decide.{dec_lt}
 use Rattle.rdf_model.specs.Terms.{Term}
 use Rattle.hash_index.specs.Slots.{numbered, slot_at, Writes}
 use Rattle.hash_index.proofs.Slots.{get-numbered, len-numbered, IsIndexed-insert, IsIndexed-remove}
-use Rattle.term_dict.specs.Dict.{Terms, IsNew, IsOneToOne, HasSmallIds, hash_of, IsSound}
+use Rattle.term_dict.specs.Dict.{Terms, IsNew, IsOneToOne, HasSmallIds, hash_of, IsDictionary}
 
 no_some : (t : Term) → None ≡ Some t → ⊥
 no_some t e = cc
@@ -29,18 +29,18 @@ there_is_below slots id there =
       | no ge ↦ absurd (let none = get_or_past slots id None (omega arith) in cc)
     ]
 
-pub one_to_one : (slots : List (Option Term)) (index : FinMap nat_cmp ℕ) (terms : Terms) → numbered slots ≡ terms → IsSound slots index → IsOneToOne terms
+pub one_to_one : (slots : List (Option Term)) (index : FinMap nat_cmp ℕ) (terms : Terms) → numbered slots ≡ terms → IsDictionary slots index → IsOneToOne terms
 one_to_one slots index terms is sound p q term at_p at_q =
     sound.different p q term (sym (at_slot slots terms is p) ∙ at_p) (sym (at_slot slots terms is q) ∙ at_q)
 
-pub small_ids : (slots : List (Option Term)) (index : FinMap nat_cmp ℕ) (terms : Terms) → numbered slots ≡ terms → IsSound slots index → HasSmallIds terms
+pub small_ids : (slots : List (Option Term)) (index : FinMap nat_cmp ℕ) (terms : Terms) → numbered slots ≡ terms → IsDictionary slots index → HasSmallIds terms
 small_ids slots index terms is sound id there =
     let below = there_is_below slots id (subst IsSome (at_slot slots terms is id) there) in
     let few = sound.few in
     omega arith
 
-pub IsSound-empty : (slots : List (Option Term)) (index : FinMap nat_cmp ℕ) → slots ≡ [] → index ≡ map.empty → IsSound slots index
-IsSound-empty slots index none empty =
+pub IsDictionary-empty : (slots : List (Option Term)) (index : FinMap nat_cmp ℕ) → slots ≡ [] → index ≡ map.empty → IsDictionary slots index
+IsDictionary-empty slots index none empty =
     record {
       indexed = λ q. ap (λ m. map.get m q) empty ∙ map.get-empty nat_cmp q ∙ sym (ap (λ s. option_map hash_of (slot_at s q)) none);
       different = λ p q term at_p at_q. absurd (no_some term (sym (ap (λ s. slot_at s p) none) ∙ at_p));
@@ -48,16 +48,16 @@ IsSound-empty slots index none empty =
     }
 
 -- the term is listed under its hash
-pub listed : (slots : List (Option Term)) (index : FinMap nat_cmp ℕ) (terms : Terms) (id : ℕ) (term : Term) → numbered slots ≡ terms → IsSound slots index → map.get terms id ≡ Some term → map.get index id ≡ Some (hash_of term)
+pub listed : (slots : List (Option Term)) (index : FinMap nat_cmp ℕ) (terms : Terms) (id : ℕ) (term : Term) → numbered slots ≡ terms → IsDictionary slots index → map.get terms id ≡ Some term → map.get index id ≡ Some (hash_of term)
 listed slots index terms id term is sound at =
     sound.indexed id ∙ ap (option_map hash_of) (sym (at_slot slots terms is id) ∙ at)
 
 -- a place without a term is listed nowhere
-pub unlisted : (slots : List (Option Term)) (index : FinMap nat_cmp ℕ) (id : ℕ) → IsSound slots index → slot_at slots id ≡ None → map.get index id ≡ None
+pub unlisted : (slots : List (Option Term)) (index : FinMap nat_cmp ℕ) (id : ℕ) → IsDictionary slots index → slot_at slots id ≡ None → map.get index id ≡ None
 unlisted slots index id sound vacant = sound.indexed id ∙ ap (option_map hash_of) vacant
 
-pub IsSound-add : (old new : List (Option Term)) (index grown : FinMap nat_cmp ℕ) (terms : Terms) (id : ℕ) (term : Term) → numbered old ≡ terms → IsSound old index → IsNew terms term → Writes old new id (Some term) → grown ≡ map.insert index id (hash_of term) → length new ≤ 2 ^ 31 → IsSound new grown
-IsSound-add old new index grown terms id term is sound fresh writes more few =
+pub IsDictionary-add : (old new : List (Option Term)) (index grown : FinMap nat_cmp ℕ) (terms : Terms) (id : ℕ) (term : Term) → numbered old ≡ terms → IsDictionary old index → IsNew terms term → Writes old new id (Some term) → grown ≡ map.insert index id (hash_of term) → length new ≤ 2 ^ 31 → IsDictionary new grown
+IsDictionary-add old new index grown terms id term is sound fresh writes more few =
     record {
       indexed = λ q. ap (λ m. map.get m q) more ∙ IsIndexed-insert hash_of old new index id term sound.indexed writes q;
       different = λ p q other at_p at_q.
@@ -80,8 +80,8 @@ IsSound-add old new index grown terms id term is sound fresh writes more few =
       few = few;
     }
 
-pub IsSound-remove : (old new : List (Option Term)) (index less : FinMap nat_cmp ℕ) (id : ℕ) → IsSound old index → Writes old new id None → less ≡ map.remove index id → length new ≡ length old → IsSound new less
-IsSound-remove old new index less id sound writes gone same =
+pub IsDictionary-remove : (old new : List (Option Term)) (index less : FinMap nat_cmp ℕ) (id : ℕ) → IsDictionary old index → Writes old new id None → less ≡ map.remove index id → length new ≡ length old → IsDictionary new less
+IsDictionary-remove old new index less id sound writes gone same =
     record {
       indexed = λ q. ap (λ m. map.get m q) gone ∙ IsIndexed-remove hash_of old new index id sound.indexed writes q;
       different = λ p q other at_p at_q. sound.different p q other (before p other at_p) (before q other at_q);
@@ -96,7 +96,7 @@ IsSound-remove old new index less id sound writes gone same =
         ]
 
 -- the next place is below 2 ^ 31, and so are the places with it
-pub next_is_small : (slots : List (Option Term)) (index : FinMap nat_cmp ℕ) (terms : Terms) (next : ℕ) → numbered slots ≡ terms → IsSound slots index → map.len terms < 2 ^ 31 → (next < length slots) ⊎ ((next ≡ length slots) × (count_by is_some slots ≡ length slots)) → next < 2 ^ 31
+pub next_is_small : (slots : List (Option Term)) (index : FinMap nat_cmp ℕ) (terms : Terms) (next : ℕ) → numbered slots ≡ terms → IsDictionary slots index → map.len terms < 2 ^ 31 → (next < length slots) ⊎ ((next ≡ length slots) × (count_by is_some slots ≡ length slots)) → next < 2 ^ 31
 next_is_small slots index terms next is sound room (inl below) = let few = sound.few in omega arith
 next_is_small slots index terms next is sound room (inr end) =
     let len = len_of slots terms is in
@@ -112,7 +112,7 @@ pub same_some : {A : Type 0} (x y : A) → Some x ≡ Some y → x ≡ y
 same_some x y e = cc
 
 -- the places stay few
-pub few_after : (old new : List (Option Term)) (index : FinMap nat_cmp ℕ) (terms : Terms) (number next : ℕ) → numbered old ≡ terms → IsSound old index → map.len terms < 2 ^ 31 → number ≡ next → (number < length old) ⊎ ((number ≡ length old) × (count_by is_some old ≡ length old)) → (length new ≡ length old) ⊎ ((length new ≡ length old + 1) × (next ≡ length old)) → length new ≤ 2 ^ 31
+pub few_after : (old new : List (Option Term)) (index : FinMap nat_cmp ℕ) (terms : Terms) (number next : ℕ) → numbered old ≡ terms → IsDictionary old index → map.len terms < 2 ^ 31 → number ≡ next → (number < length old) ⊎ ((number ≡ length old) × (count_by is_some old ≡ length old)) → (length new ≡ length old) ⊎ ((length new ≡ length old + 1) × (next ≡ length old)) → length new ≤ 2 ^ 31
 few_after old new index terms number next is sound room same least (inl kept) = let few = sound.few in omega arith
 few_after old new index terms number next is sound room same (inl below) (inr grown) = let at = grown.1 in absurd (omega arith)
 few_after old new index terms number next is sound room same (inr end) (inr grown) =

@@ -7,7 +7,7 @@ use Rattle.rdf_model.specs.Terms.{Term}
 use Rattle.hash_index.specs.Slots.{slot_at, Writes}
 use Rattle.term_dict.specs.declared.place.Place.{Place}
 use Rattle.term_dict.specs.declared.place.Place.TheVariants.{Vacant}
-use Rattle.term_dict.specs.Places.{term_in, IsVacantList, IsSound}
+use Rattle.term_dict.specs.Places.{term_in, IsVacantList, IsLinked}
 
 -- a place starts one list at most
 count_unique : (ps : List Place) (m n number : ℕ) → IsVacantList ps m number → IsVacantList ps n number → m ≡ n
@@ -58,47 +58,47 @@ place_at ps number present =
     (get_or ps number (Vacant 0), slice_get-get_or ps number (Vacant 0) within, subst IsSome (get_or-map term_in ps number (Vacant 0) None within) present)
 
 -- the next place is a new one where each place has a term, or it has none
-next_cases : (ps : List Place) (held next : ℕ) → IsSound ps held next → ((next ≡ length ps) × (held ≡ length ps)) ⊎ ((after : ℕ) × (slice_get ps next ≡ Some (Vacant after)))
+next_cases : (ps : List Place) (held next : ℕ) → IsLinked ps held next → ((next ≡ length ps) × (held ≡ length ps)) ⊎ ((after : ℕ) × (slice_get ps next ≡ Some (Vacant after)))
 next_cases ps held next sound = by_count sound.vacant sound.total sound.linked
   where
     by_count : (n : ℕ) → held + n ≡ length ps → IsVacantList ps n next → ((next ≡ length ps) × (held ≡ length ps)) ⊎ ((after : ℕ) × (slice_get ps next ≡ Some (Vacant after)))
     by_count zero total linked = inl (linked, omega arith)
     by_count (suc n) total linked = inr (linked.0, linked.1)
 
-pub next_is_vacant : (ps : List Place) (held next : ℕ) → IsSound ps held next → slot_at (map term_in ps) next ≡ None
+pub next_is_vacant : (ps : List Place) (held next : ℕ) → IsLinked ps held next → slot_at (map term_in ps) next ≡ None
 next_is_vacant ps held next sound =
     elim (next_cases ps held next sound) [
       | inl full ↦ get_or_past (map term_in ps) next None (omega (arith, length-map ps term_in))
       | inr found ↦ get_or-map term_in ps next (Vacant 0) None (slice_get_within ps next _ found.1) ∙ ap term_in (get_or_from_slice_get ps next _ (Vacant 0) found.1)
     ]
 
-pub next_is_least : (ps : List Place) (held next : ℕ) → IsSound ps held next → (next < length (map term_in ps)) ⊎ ((next ≡ length (map term_in ps)) × (count_by is_some (map term_in ps) ≡ length (map term_in ps)))
+pub next_is_least : (ps : List Place) (held next : ℕ) → IsLinked ps held next → (next < length (map term_in ps)) ⊎ ((next ≡ length (map term_in ps)) × (count_by is_some (map term_in ps) ≡ length (map term_in ps)))
 next_is_least ps held next sound =
     elim (next_cases ps held next sound) [
       | inl full ↦ inr (full.0 ∙ sym (length-map ps term_in), sym sound.counted ∙ full.1 ∙ sym (length-map ps term_in))
       | inr found ↦ inl (let within = slice_get_within ps next _ found.1 in omega (arith, length-map ps term_in))
     ]
 
-pub full_at_end : (ps : List Place) (held next : ℕ) → IsSound ps held next → next ≡ length ps → held ≡ length ps
+pub full_at_end : (ps : List Place) (held next : ℕ) → IsLinked ps held next → next ≡ length ps → held ≡ length ps
 full_at_end ps held next sound at_end =
     elim (next_cases ps held next sound) [
       | inl full ↦ full.1
       | inr found ↦ omega (arith, slice_get_within ps next _ found.1)
     ]
 
-vacant_before_end : (ps : List Place) (held next : ℕ) → IsSound ps held next → next ≢ length ps → (after : ℕ) × (slice_get ps next ≡ Some (Vacant after))
+vacant_before_end : (ps : List Place) (held next : ℕ) → IsLinked ps held next → next ≢ length ps → (after : ℕ) × (slice_get ps next ≡ Some (Vacant after))
 vacant_before_end ps held next sound before =
     elim (next_cases ps held next sound) [ inl full ↦ absurd (before full.0) | inr found ↦ found ]
 
-pub next_within : (ps : List Place) (held next : ℕ) → IsSound ps held next → next ≢ length ps → next < length ps
+pub next_within : (ps : List Place) (held next : ℕ) → IsLinked ps held next → next ≢ length ps → next < length ps
 next_within ps held next sound before = slice_get_within ps next _ (vacant_before_end ps held next sound before).1
 
 -- what a read of the next place gives stands there
-pub read_at_next : (ps : List Place) (held next : ℕ) (e : Place) → IsSound ps held next → next ≢ length ps → e ≡ get_or ps next e → slice_get ps next ≡ Some e
+pub read_at_next : (ps : List Place) (held next : ℕ) (e : Place) → IsLinked ps held next → next ≢ length ps → e ≡ get_or ps next e → slice_get ps next ≡ Some e
 read_at_next ps held next e sound before read = slice_get_read ps (length ps) next e refl (next_within ps held next sound before) read
 
 -- and it is a place without a term
-pub next_reads_vacant : (ps : List Place) (held next : ℕ) (e : Place) → IsSound ps held next → slice_get ps next ≡ Some e → (after : ℕ) × (e ≡ Vacant after)
+pub next_reads_vacant : (ps : List Place) (held next : ℕ) (e : Place) → IsLinked ps held next → slice_get ps next ≡ Some e → (after : ℕ) × (e ≡ Vacant after)
 next_reads_vacant ps held next e sound found =
     let vacant = vacant_before_end ps held next sound (λ is. omega (arith, slice_get_within ps next _ found)) in
     let there = vacant.1 in
@@ -108,8 +108,8 @@ one-some : (o : Option Term) → IsSome o → ◌≡◌ {A = ℕ} (cond (is_some
 one-some None there = cc
 one-some (Some t) there = refl
 
-pub IsSound-push : (ps : List Place) (held next : ℕ) (e : Place) → IsSound ps held next → next ≡ length ps → IsSome (term_in e) → IsSound (ps ++ e ∷ []) (held + 1) (next + 1)
-IsSound-push ps held next e sound at_end there =
+pub IsLinked-push : (ps : List Place) (held next : ℕ) (e : Place) → IsLinked ps held next → next ≡ length ps → IsSome (term_in e) → IsLinked (ps ++ e ∷ []) (held + 1) (next + 1)
+IsLinked-push ps held next e sound at_end there =
     let full = full_at_end ps held next sound at_end in
     let longer = length_push ps e in
     let one = one-some (term_in e) there in
@@ -121,10 +121,10 @@ IsSound-push ps held next e sound at_end there =
     }
 
 -- the first place without a term leaves the list: the rest of the list is shorter, so it does not come back to that place
-pub IsSound-fill : (ps : List Place) (held next after : ℕ) (e : Place) → IsSound ps held next → slice_get ps next ≡ Some (Vacant after) → IsSome (term_in e) → IsSound (set ps next e) (held + 1) after
-IsSound-fill ps held next after e sound found there = by_count sound.vacant sound.total sound.linked
+pub IsLinked-fill : (ps : List Place) (held next after : ℕ) (e : Place) → IsLinked ps held next → slice_get ps next ≡ Some (Vacant after) → IsSome (term_in e) → IsLinked (set ps next e) (held + 1) after
+IsLinked-fill ps held next after e sound found there = by_count sound.vacant sound.total sound.linked
   where
-    by_count : (n : ℕ) → held + n ≡ length ps → IsVacantList ps n next → IsSound (set ps next e) (held + 1) after
+    by_count : (n : ℕ) → held + n ≡ length ps → IsVacantList ps n next → IsLinked (set ps next e) (held + 1) after
     by_count zero total linked = absurd (omega (arith, slice_get_within ps next _ found))
     by_count (suc n) total linked =
         let listed = linked.1 in
@@ -138,8 +138,8 @@ IsSound-fill ps held next after e sound found there = by_count sound.vacant soun
           linked = IsVacantList-set ps next e n after off (subst (IsVacantList ps n) same linked.2);
         }
 
-pub IsSound-vacate : (ps : List Place) (held next number : ℕ) (e : Place) → IsSound ps held next → slice_get ps number ≡ Some e → IsSome (term_in e) → IsSound (set ps number (Vacant next)) (held - 1) number
-IsSound-vacate ps held next number e sound found there =
+pub IsLinked-vacate : (ps : List Place) (held next number : ℕ) (e : Place) → IsLinked ps held next → slice_get ps number ≡ Some e → IsSome (term_in e) → IsLinked (set ps number (Vacant next)) (held - 1) number
+IsLinked-vacate ps held next number e sound found there =
     let within = slice_get_within ps number _ found in
     let count = count-set ps number e (Vacant next) found in
     let one = one-some (term_in e) there in
@@ -155,7 +155,7 @@ IsSound-vacate ps held next number e sound found there =
     }
 
 -- at least one place has a term
-pub some_held : (ps : List Place) (held next number : ℕ) (e : Place) → IsSound ps held next → slice_get ps number ≡ Some e → IsSome (term_in e) → 1 ≤ held
+pub some_held : (ps : List Place) (held next number : ℕ) (e : Place) → IsLinked ps held next → slice_get ps number ≡ Some e → IsSome (term_in e) → 1 ≤ held
 some_held ps held next number e sound found there =
     let count = count-set ps number e (Vacant next) found in
     let one = one-some (term_in e) there in

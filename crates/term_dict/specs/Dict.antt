@@ -39,7 +39,7 @@ unfoldable pub hash_of : Term → ℕ
 hash_of term = folding.finish (folding.write (folding.write folding.initial (texts_of term).0) (texts_of term).1)
 
 -- the index has exactly the terms, each under its hash, no two places have one term, and the places are at most 2 ^ 31
-pub record IsSound (slots : List (Option Term)) (index : FinMap nat_cmp ℕ) : Type 0 where
+pub record IsDictionary (slots : List (Option Term)) (index : FinMap nat_cmp ℕ) : Type 0 where
   pub indexed : IsIndexed hash_of slots index
   pub different : (p q : ℕ) (term : Term) → slot_at slots p ≡ Some term → slot_at slots q ≡ Some term → p ≡ q
   pub few : length slots ≤ 2 ^ 31

@@ -33,7 +33,7 @@ IsVacantList places zero number = number ≡ length places
 IsVacantList places (suc count) number = (next : ℕ) × (slice_get places number ≡ Some (place.Vacant next)) × IsVacantList places count next
 
 -- `held` counts the terms, and the list from `next` has every place without one
-pub record IsSound (places : List Place) (held next : ℕ) : Type 0 where
+pub record IsLinked (places : List Place) (held next : ℕ) : Type 0 where
   pub counted : held ≡ count_by is_some (map term_in places)
   pub vacant : ℕ
   pub total : held + vacant ≡ length places

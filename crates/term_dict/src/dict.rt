@@ -26,7 +26,7 @@ impl Model for Dict {
     ghost use Rattle.std.specs.Coded.{coded_ℕ};
     ghost use Rattle.rdf_model.specs.Graph.{coded_term};
     ghost use Rattle.hash_index.specs.Slots.{numbered};
-    ghost use Rattle.term_dict.specs.Dict.{Terms, IsSound};
+    ghost use Rattle.term_dict.specs.Dict.{Terms, IsDictionary};
 
     ghost Value = { Terms };
 
@@ -34,7 +34,7 @@ impl Model for Dict {
 
     ghost view = { λ d. numbered d.places.slots };
 
-    ghost invariant = { λ d. IsSound d.places.slots d.index };
+    ghost invariant = { λ d. IsDictionary d.places.slots d.index };
 }
 
 impl Dict {

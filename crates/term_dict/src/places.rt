@@ -21,7 +21,7 @@ pub struct Places {
 
 impl Model for Places {
     ghost use Rattle.std.specs.Prelude.{map, vec_capacity};
-    ghost use Rattle.term_dict.specs.Places.{Slots, slots_code, term_in, IsSound};
+    ghost use Rattle.term_dict.specs.Places.{Slots, slots_code, term_in, IsLinked};
 
     ghost Value = { Slots };
 
@@ -29,7 +29,7 @@ impl Model for Places {
 
     ghost view = { λ p. record { slots = map term_in p.places.items; next = p.next; capacity = vec_capacity p.places } };
 
-    ghost invariant = { λ p. IsSound p.places.items p.held p.next };
+    ghost invariant = { λ p. IsLinked p.places.items p.held p.next };
 }
 
 impl Places {

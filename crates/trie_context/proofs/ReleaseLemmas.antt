@@ -1,8 +1,7 @@
 -- Edges given up one by one, and a row given up with its edges.
-use Rattle.std.specs.Prelude.{◌≡◌, ℕ, ◌+◌, ◌-◌, ◌<◌, ◌≤◌, refl, true, false, Option, None, Some, IfSome, IsSome}
+use Rattle.std.specs.Prelude.{◌≡◌, ℕ, ◌+◌, ◌-◌, ◌<◌, ◌≤◌, refl, true, false, List, [], ◌∷◌, Option, None, Some, IfSome, IsSome}
 use Rattle.std.proofs.Common.{sym, ◌∙◌, ap, subst, arith}
-use Rattle.std.specs.FinMap as map
-use Rattle.hypertrie_model.specs.Tails.{tail, tail_all, sum_over-tail, sum_over-tail_none}
+use Rattle.trie_depth.specs.declared.id.Id.{Id}
 use Rattle.edge_map.specs.declared.edge.Edge.{Edge}
 use Rattle.edge_map.specs.declared.edge.Edge.TheVariants.{Node as ToRow}
 use Rattle.edge_map.specs.Edges.{Edges}
@@ -14,8 +13,9 @@ use Rattle.trie_context.specs.Rows.{table_at, put_table, row_of}
 use Rattle.trie_context.specs.Holds.{holds_of, one_at, at_depth, nothing, RowsStay}
 use Rattle.trie_context.specs.Kept.{AreKept, AreMoved}
 use Rattle.trie_context.specs.RowLaws.{row_low}
-use Rattle.trie_context.specs.MoveLaws.{from_one, at_here, at_none, at_other, at_sum, moved_as, if_same, moved_on, rows_stay_on, there_row, held_there}
+use Rattle.trie_context.specs.MoveLaws.{from_one, at_here, at_none, at_other, at_same, at_sum, moved_as, if_same, moved_on, rows_stay_on, there_row, held_there}
 use Rattle.trie_context.proofs.TableMoves.{dropped, drop_came}
+use Rattle.trie_context.proofs.WalkLemmas.{edges_along}
 
 pub if_at : {A : Type 0} (P : A → Type 0) (o : Option A) {x : A} → o ≡ Some x → IfSome o P → P x
 if_at P o at h = subst (λ q. IfSome q P) at h
@@ -37,25 +37,25 @@ pub edge_low : (t : Tables) (d : ℕ) (e : Edge) (n : ℕ) → e ≡ ToRow n →
 edge_low t d e n is held = row_low t d n (held_there t d n (edge_held t d e n is held))
 
 module _ (mixed : ℕ → ℕ → ℕ → ℕ → ℕ) where
-  pub walk_begins : (t : Tables) → AreKept mixed t → (d : ℕ) (m : Edges) → AreMoved mixed t t (at_depth d (edges_in (tail m 0))) (at_depth d (edges_in m))
-  walk_begins t kept d m = record { kept = kept; holds = λ e r. ap (λ n. holds_of t e r + at_depth d (edges_in n) e r) (sym (tail_all m)); reserved = λ e. refl }
+  pub walk_begins : (t : Tables) → AreKept mixed t → (d : ℕ) (m : Edges) (all : List (Id × Edge)) → ((r : ℕ) → edges_in m r ≡ edges_along all r) → AreMoved mixed t t (at_depth d (edges_along all)) (at_depth d (edges_in m))
+  walk_begins t kept d m all same = record { kept = kept; holds = λ e r. omega (arith, at_same d (edges_in m) (edges_along all) same e r); reserved = λ e. refl }
 
-  module _ (first t : Tables) (d : ℕ) (m : Edges) (from : ℕ) (so_far : AreMoved mixed first t (at_depth d (edges_in (tail m from))) (at_depth d (edges_in m))) where
+  module _ (first t : Tables) (d : ℕ) (m : Edges) (left : List (Id × Edge)) (so_far : AreMoved mixed first t (at_depth d (edges_along left)) (at_depth d (edges_in m))) where
     -- at the end of the walk
-    pub walk_ends : ((k : ℕ) → from ≤ k → map.get m k ≡ None) → AreMoved mixed first t nothing (at_depth d (edges_in m))
-    walk_ends none = moved_as so_far nothing (at_depth d (edges_in m)) (λ e r. omega (arith, at_none d (edges_in (tail m from)) (λ q. sum_over-tail_none m (λ _ f. leads f q) from none) e r))
+    pub walk_ends : left ≡ [] → AreMoved mixed first t nothing (at_depth d (edges_in m))
+    walk_ends none = moved_as so_far nothing (at_depth d (edges_in m)) (λ e r. omega (arith, at_none d (edges_along left) (λ q. ap (λ es. edges_along es q) none) e r))
 
-    module _ (k : ℕ) (edge : Edge) (at : map.get m k ≡ Some edge) (le : from ≤ k) (least : (q : ℕ) → from ≤ q → q < k → map.get m q ≡ None) where
-      one_edge : (r : ℕ) → edges_in (tail m from) r ≡ leads edge r + edges_in (tail m (k + 1)) r
-      one_edge r = sum_over-tail m (λ _ f. leads f r) from k edge at le least
+    module _ (entry : Id × Edge) (rest : List (Id × Edge)) (next : left ≡ entry ∷ rest) where
+      one_edge : (r : ℕ) → edges_along left r ≡ leads entry.1 r + edges_along rest r
+      one_edge r = ap (λ es. edges_along es r) next
 
       -- the next edge is held
-      pub walk_held : ((r : ℕ) → edges_in m r ≤ holds_of first d r) → (r : ℕ) → leads edge r ≤ holds_of t d r
-      walk_held held r = omega (arith, so_far.holds d r, at_here d (edges_in (tail m from)) r, at_here d (edges_in m) r, one_edge r, held r)
+      pub walk_held : ((r : ℕ) → edges_in m r ≤ holds_of first d r) → (r : ℕ) → leads entry.1 r ≤ holds_of t d r
+      walk_held held r = omega (arith, so_far.holds d r, at_here d (edges_along left) r, at_here d (edges_in m) r, one_edge r, held r)
 
       -- and then given up
-      pub walk_on : (u : Tables) → AreMoved mixed t u nothing (at_depth d (leads edge)) → AreMoved mixed first u (at_depth d (edges_in (tail m (k + 1)))) (at_depth d (edges_in m))
-      walk_on u given = moved_on so_far given (at_depth d (edges_in (tail m (k + 1)))) (at_depth d (edges_in m)) (λ e r. omega (arith, at_sum d (edges_in (tail m from)) (leads edge) (edges_in (tail m (k + 1))) one_edge e r))
+      pub walk_on : (u : Tables) → AreMoved mixed t u nothing (at_depth d (leads entry.1)) → AreMoved mixed first u (at_depth d (edges_along rest)) (at_depth d (edges_in m))
+      walk_on u given = moved_on so_far given (at_depth d (edges_along rest)) (at_depth d (edges_in m)) (λ e r. omega (arith, at_sum d (edges_along left) (leads entry.1) (edges_along rest) one_edge e r))
 
   -- a row whose last hold is given up
   module _ (t : Tables) (kept : AreKept mixed t) (k : ℕ) (low : 1 ≤ k) (high : k ≤ 3) (i : ℕ) (held : 1 ≤ holds_of t k i) (few : (row : Row Node) → row_of t k i ≡ Some row → row.count ≤ 1)

@@ -7,7 +7,7 @@ ghost use Rattle.trie_context.specs.Kept.{AreKept, AreMoved};
 
 use crate::tables::Tables;
 use edge_map::{Edge, EdgeMap};
-use trie_depth::{Id, Mix};
+use trie_depth::Mix;
 use trie_node::Node;
 
 /// The count of a row to which one edge or hold leads.
@@ -71,13 +71,9 @@ pub fn release_map<M: Mix>(tables: &mut Tables, depth: usize, edges: &EdgeMap)
     ensures rows { RowsStay tables.new tables.old }
     ensures above { (d : ℕ) → depth < d → table_at tables.new d ≡ table_at tables.old d }
 {
-    let mut from = Id(0);
-    while let Some((key, edge)) = edges.seek(from) {
+    let mut walk = edges.walk();
+    while let Some((_, edge)) = walk.next() {
         release_edge::<M>(tables, depth, edge);
-        if key.0 == u32::MAX {
-            return;
-        }
-        from = Id(key.0 + 1);
     }
 }
 

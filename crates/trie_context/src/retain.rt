@@ -10,7 +10,7 @@ ghost use Rattle.trie_context.specs.Kept.{AreKept, AreMoved};
 use crate::tables::Tables;
 use edge_map::{Edge, EdgeMap};
 use std::sync::ledger::Ledger;
-use trie_depth::{Id, Mix, Steps};
+use trie_depth::{Mix, Steps};
 
 /// One hold more on a row that is there.
 pub fn retain_row<M: Mix>(tables: &mut Tables, depth: usize, row: usize)
@@ -59,13 +59,9 @@ pub fn retain_map<M: Mix, W: Ledger>(
     ensures stay { RowsStay tables.old tables.new }
     ensures ticks { retains.new ≡ retains.old + map.len edges.now }
 {
-    let mut from = Id(0);
-    while let Some((key, edge)) = edges.seek(from) {
+    let mut walk = edges.walk();
+    while let Some((_, edge)) = walk.next() {
         retains.tick();
         retain_edge::<M>(tables, depth, edge);
-        if key.0 == u32::MAX {
-            return;
-        }
-        from = Id(key.0 + 1);
     }
 }

@@ -6,3 +6,5 @@ pub mod Nodes
 pub mod DepthLaws
 pub mod FigureLaws
 pub mod HandLaws
+pub mod After
+pub mod InHand

@@ -1,10 +1,8 @@
 //! Changes of a map whose edges are in hand.
-ghost use Rattle.std.specs.Prelude.{◌≡◌, ◌+◌, ◌-◌, ◌≤◌, ◌^◌, ℕ, IfOk, OnOk, OnErr};
-ghost use Rattle.edge_map.specs.Entries.{KeysRise};
-ghost use Rattle.edge_map.specs.Edges.{changed};
-ghost use Rattle.trie_node.specs.Sets.{edges_in};
-ghost use Rattle.trie_context.specs.Holds.{holds_of, at_depth, nothing, CountsRiseBy, RowsStay};
+ghost use Rattle.std.specs.Prelude.{◌≡◌, ◌+◌, ◌-◌, ◌≤◌, ◌^◌, ℕ};
+ghost use Rattle.trie_context.specs.Holds.{holds_of, nothing, CountsRiseBy, RowsStay};
 ghost use Rattle.trie_context.specs.Kept.{AreMoved};
+ghost use Rattle.trie_update.specs.After.{changes_hold};
 ghost use Rattle.trie_update.specs.Rooms.{changes_lead};
 
 use edge_map::Edge;
@@ -17,7 +15,7 @@ pub type Changes = Vec<(Id, Option<Edge>)>;
 /// Gives up the edges of the changes of a map of a node of this level.
 pub fn release_changes<M: Mix, L: Level>(context: &mut Context<M>, changes: &[(Id, Option<Edge>)])
     requires held { (r : ℕ) → changes_lead changes.now r ≤ holds_of context.old (L.DEPTH - 1) r }
-    ensures moved { AreMoved M.mixed context.old context.new nothing (at_depth (L.DEPTH - 1) (changes_lead changes.now)) }
+    ensures moved { AreMoved M.mixed context.old context.new nothing (changes_hold (L.DEPTH - 1) changes.now) }
     ensures counts { CountsRiseBy context.old context.new nothing }
     ensures came { RowsStay context.new context.old }
 {

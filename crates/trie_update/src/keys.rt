@@ -1,15 +1,16 @@
 //! A key set changed.
-ghost use Rattle.std.specs.Prelude.{◌≡◌, ℕ, ◌+◌, ◌≤◌, IsNone, IfSome, IfOk, OnOk, OnErr};
+ghost use Rattle.std.specs.Prelude.{◌≡◌, ℕ, ◌+◌, ◌≤◌, IsNone, IfSome, IfOk, OnErr};
 ghost use Rattle.std.specs.Prelude.{map as each};
 ghost use Rattle.std.specs.FinMap as map;
-ghost use Rattle.hypertrie_model.specs.Changes.{after, IsChange};
+ghost use Rattle.hypertrie_model.specs.Changes.{IsChange};
 ghost use Rattle.trie_node.specs.Sets.{leads, set_hash};
-ghost use Rattle.trie_context.specs.Holds.{at_depth, nothing, CountsRiseBy, RowsStay};
-ghost use Rattle.trie_context.specs.Kept.{AreMoved};
+ghost use Rattle.trie_context.specs.Holds.{nothing};
 ghost use Rattle.trie_context.specs.declared.tables.Tables.{Tables};
+ghost use Rattle.trie_update.specs.After.{keys_after, edge_hold};
+ghost use Rattle.trie_update.specs.InHand.{IsInHand};
 ghost use Rattle.trie_update.specs.Batches.{set_of_entries, AreInOrder, pair_rest};
 ghost use Rattle.trie_update.specs.Changes.{grows, key_change};
-ghost use Rattle.trie_context.specs.FitEdges.{set_at, StandsAt, option_leads};
+ghost use Rattle.trie_context.specs.FitEdges.{set_at, StandsAt};
 ghost use Rattle.trie_update.specs.Rooms.{LeavesRoom, FitsSome, AreKeys};
 
 use crate::change::Change;
@@ -87,7 +88,7 @@ fn changed_keys<M: Mix>(
 ) -> Result<EdgeMap, Memory>
     requires fits { FitsSome context.now 1 old }
     requires order { AreInOrder pair_rest run.now }
-    ensures { IfOk result (AreKeys (after (grows change) (set_at context.now 1 old) (set_of_entries pair_rest run.now))) }
+    ensures { IfOk result (AreKeys (keys_after change context.now old run.now)) }
 {
     let changes = key_changes(alloc, change, run)?;
     keys_of(alloc, context, old)?.with(&changes)
@@ -104,7 +105,7 @@ fn first_edge(keys: &EdgeMap) -> Option<Edge>
 
 /// The edge of one key that is put in where there was none: the key itself, and nothing is stored for it.
 fn lone_key(change: Change, old: Option<Edge>, run: &[Pair]) -> Option<Edge>
-    ensures stands { IfSome result (λ e. (t : Tables) → StandsAt t 1 (after (grows change) (set_at t 1 old) (set_of_entries pair_rest run.now)) (Some e)) }
+    ensures stands { IfSome result (λ e. (t : Tables) → StandsAt t 1 (keys_after change t old run.now) (Some e)) }
     ensures nowhere { IfSome result (λ e. (r : ℕ) → leads e r ≡ 0) }
 {
     match (change, old) {
@@ -126,10 +127,8 @@ fn change_many_keys<M: Mix, W: Ledger>(
     requires order { AreInOrder pair_rest run.now }
     requires change { IsChange (grows change) (set_at context.old 1 old) (set_of_entries pair_rest run.now) }
     requires room { LeavesRoom context.old 1 }
-    ensures stands { IfOk result (StandsAt context.new 1 (after (grows change) (set_at context.old 1 old) (set_of_entries pair_rest run.now))) }
-    ensures moved { IfOk result (λ e. AreMoved M.mixed context.old context.new (at_depth 1 (option_leads e)) nothing) }
-    ensures counts { OnOk result (CountsRiseBy context.old context.new (λ _ _. 1)) }
-    ensures stay { OnOk result (RowsStay context.old context.new) }
+    ensures stands { IfOk result (StandsAt context.new 1 (keys_after change context.old old run.now)) }
+    ensures held { IfOk result (λ e. IsInHand M.mixed context.old context.new (edge_hold 1 e) 1) }
     ensures kept { OnErr result (context.new ≡ context.old) }
     ensures ticks { interns.new ≤ interns.old + 1 }
 {
@@ -165,10 +164,8 @@ pub fn change_keys<M: Mix, W: Ledger>(
     requires order { AreInOrder pair_rest run.now }
     requires change { IsChange (grows change) (set_at context.old 1 old) (set_of_entries pair_rest run.now) }
     requires room { LeavesRoom context.old 1 }
-    ensures stands { IfOk result (StandsAt context.new 1 (after (grows change) (set_at context.old 1 old) (set_of_entries pair_rest run.now))) }
-    ensures moved { IfOk result (λ e. AreMoved M.mixed context.old context.new (at_depth 1 (option_leads e)) nothing) }
-    ensures counts { OnOk result (CountsRiseBy context.old context.new (λ _ _. 1)) }
-    ensures stay { OnOk result (RowsStay context.old context.new) }
+    ensures stands { IfOk result (StandsAt context.new 1 (keys_after change context.old old run.now)) }
+    ensures held { IfOk result (λ e. IsInHand M.mixed context.old context.new (edge_hold 1 e) 1) }
     ensures kept { OnErr result (context.new ≡ context.old) }
     ensures ticks { interns.new ≤ interns.old + 1 }
 {

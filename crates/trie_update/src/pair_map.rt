@@ -1,13 +1,12 @@
 //! A map of a node of depth two changed.
-ghost use Rattle.std.specs.Prelude.{◌≡◌, ℕ, ◌+◌, ◌≤◌, ◌^◌, [], IfOk, OnOk, OnErr, length};
+ghost use Rattle.std.specs.Prelude.{◌≡◌, ◌+◌, ◌≤◌, ◌^◌, [], IfOk, OnOk, OnErr, length};
 ghost use Rattle.edge_map.specs.Entries.{KeysRise};
 ghost use Rattle.edge_map.specs.Edges.{changed};
 ghost use Rattle.trie_depth.specs.Tuples.{pair_tuple};
-ghost use Rattle.trie_node.specs.Sets.{edges_in};
-ghost use Rattle.trie_context.specs.Holds.{at_depth, nothing, CountsRiseBy, RowsStay};
-ghost use Rattle.trie_context.specs.Kept.{AreMoved};
-ghost use Rattle.trie_update.specs.Batches.{set_of_entries, AreInOrder};
-ghost use Rattle.trie_update.specs.Rooms.{LeavesRoom, AllFit, changes_lead, AreChanges, AreChanged};
+ghost use Rattle.trie_update.specs.After.{pairs_of, map_hold, changes_hold, pairs_room};
+ghost use Rattle.trie_update.specs.InHand.{IsInHand};
+ghost use Rattle.trie_update.specs.Batches.{AreInOrder};
+ghost use Rattle.trie_update.specs.Rooms.{LeavesRoom, AllFit, AreChanges, AreChanged};
 
 use crate::change::Change;
 use crate::hand::{Changes, release_changes};
@@ -33,13 +32,11 @@ fn pair_changes<M: Mix, W: Ledger>(
     requires none { changes.old.items ≡ [] }
     requires fits { AllFit context.old 1 old.now }
     requires order { AreInOrder pair_tuple pairs.now }
-    requires change { AreChanges change context.old 1 old.now (set_of_entries pair_tuple pairs.now) }
+    requires change { AreChanges change context.old 1 old.now (pairs_of pairs.now) }
     requires room { LeavesRoom context.old (length pairs.now) }
     ensures rise { KeysRise changes.new.items }
-    ensures changed { OnOk result (AreChanged change context.old context.new 1 old.now (set_of_entries pair_tuple pairs.now) (changed old.now changes.new.items)) }
-    ensures moved { AreMoved M.mixed context.old context.new (at_depth 1 (changes_lead changes.new.items)) nothing }
-    ensures counts { CountsRiseBy context.old context.new (λ _ _. length pairs.now) }
-    ensures stay { RowsStay context.old context.new }
+    ensures changed { OnOk result (AreChanged change context.old context.new 1 old.now (pairs_of pairs.now) (changed old.now changes.new.items)) }
+    ensures held { IsInHand M.mixed context.old context.new (changes_hold 1 changes.new.items) (length pairs.now) }
     ensures ticks { interns.new ≤ interns.old + length pairs.now }
 {
     // This call tells the proof that the tables are kept.
@@ -62,12 +59,10 @@ pub fn change_pair_map<M: Mix, W: Ledger, V: Ledger>(
 ) -> Result<EdgeMap, Memory>
     requires fits { AllFit context.old 1 old.now }
     requires order { AreInOrder pair_tuple pairs.now }
-    requires change { AreChanges change context.old 1 old.now (set_of_entries pair_tuple pairs.now) }
-    requires room { LeavesRoom context.old (length pairs.now + 2 ^ 32) }
-    ensures changed { IfOk result (AreChanged change context.old context.new 1 old.now (set_of_entries pair_tuple pairs.now)) }
-    ensures moved { IfOk result (λ m. AreMoved M.mixed context.old context.new (at_depth 1 (edges_in m)) nothing) }
-    ensures counts { OnOk result (CountsRiseBy context.old context.new (λ _ _. length pairs.now + 2 ^ 32)) }
-    ensures stay { OnOk result (RowsStay context.old context.new) }
+    requires change { AreChanges change context.old 1 old.now (pairs_of pairs.now) }
+    requires room { LeavesRoom context.old (pairs_room (length pairs.now)) }
+    ensures changed { IfOk result (AreChanged change context.old context.new 1 old.now (pairs_of pairs.now)) }
+    ensures held { IfOk result (λ m. IsInHand M.mixed context.old context.new (map_hold 1 m) (pairs_room (length pairs.now))) }
     ensures kept { OnErr result (context.new ≡ context.old) }
     ensures ticks { interns.new ≤ interns.old + length pairs.now }
 {

@@ -1,18 +1,18 @@
 //! A set of pairs changed.
-ghost use Rattle.std.specs.Prelude.{◌≡◌, ℕ, ◌+◌, ◌*◌, ◌<◌, ◌≤◌, ◌^◌, IfSome, IfOk, OnOk, OnErr, length};
+ghost use Rattle.std.specs.Prelude.{◌≡◌, ℕ, ◌+◌, ◌*◌, ◌<◌, ◌≤◌, ◌^◌, IfSome, IfOk, OnErr, length};
 ghost use Rattle.std.specs.Ordering.{nat_cmp};
 ghost use Rattle.std.specs.FinSet as set;
-ghost use Rattle.hypertrie_model.specs.Changes.{after, IsChange};
+ghost use Rattle.hypertrie_model.specs.Changes.{IsChange};
 ghost use Rattle.hypertrie_model.specs.IdSets.{IdSet};
 ghost use Rattle.hypertrie_model.specs.Sets.{single};
 ghost use Rattle.trie_depth.specs.declared.id.Pair.{Pair};
 ghost use Rattle.trie_depth.specs.Tuples.{pair_tuple};
 ghost use Rattle.trie_node.specs.declared.node.Node.{Node};
-ghost use Rattle.trie_node.specs.Sets.{edges_in, set_hash};
-ghost use Rattle.trie_context.specs.FitEdges.{set_at, StandsAt, option_leads};
-ghost use Rattle.trie_context.specs.Holds.{at_depth, nothing, CountsRiseBy, RowsStay};
-ghost use Rattle.trie_context.specs.Kept.{AreMoved};
+ghost use Rattle.trie_node.specs.Sets.{set_hash};
+ghost use Rattle.trie_context.specs.FitEdges.{set_at, StandsAt};
 ghost use Rattle.trie_context.specs.declared.tables.Tables.{Tables};
+ghost use Rattle.trie_update.specs.After.{pairs_after, edge_hold, map_hold, pairs_room, run_room};
+ghost use Rattle.trie_update.specs.InHand.{IsInHand};
 ghost use Rattle.trie_update.specs.Batches.{set_of_entries, AreInOrder, trip_rest};
 ghost use Rattle.trie_update.specs.Changes.{grows};
 ghost use Rattle.trie_update.specs.Nodes.{ArePairParts, IsPairNodeOf};
@@ -86,11 +86,9 @@ fn change_pair_position<M: Mix, W: Ledger, V: Ledger>(
     requires fits { FitsSome context.old 2 old }
     requires order { AreInOrder trip_rest run.now }
     requires change { IsChange (grows change) (set_at context.old 2 old) (set_of_entries trip_rest run.now) }
-    requires room { LeavesRoom context.old (length run.now + 2 ^ 32) }
-    ensures slices { IfOk result (AreSlicesAt context.new 1 (after (grows change) (set_at context.old 2 old) (set_of_entries trip_rest run.now)) position) }
-    ensures moved { IfOk result (λ m. AreMoved M.mixed context.old context.new (at_depth 1 (edges_in m)) nothing) }
-    ensures counts { OnOk result (CountsRiseBy context.old context.new (λ _ _. length run.now + 2 ^ 32)) }
-    ensures stay { OnOk result (RowsStay context.old context.new) }
+    requires room { LeavesRoom context.old (pairs_room (length run.now)) }
+    ensures slices { IfOk result (AreSlicesAt context.new 1 (pairs_after change context.old old run.now) position) }
+    ensures held { IfOk result (λ m. IsInHand M.mixed context.old context.new (map_hold 1 m) (pairs_room (length run.now))) }
     ensures kept { OnErr result (context.new ≡ context.old) }
     ensures ticks { interns.new ≤ interns.old + length run.now }
 {
@@ -121,7 +119,7 @@ fn pair_node<M: Mix>(alloc: Global, size: u64, hash: u64, first: EdgeMap, second
 
 /// The node of one pair that is put in where there was none.
 fn lone_pair(change: Change, old: Option<Edge>, run: &[Trip]) -> Option<Node>
-    ensures { IfSome result (λ node. (p : Pair) × (node ≡ Node.Single p) × ((t : Tables) → single nat_cmp (pair_tuple p) ≡ after (grows change) (set_at t 2 old) (set_of_entries trip_rest run.now))) }
+    ensures { IfSome result (λ node. (p : Pair) × (node ≡ Node.Single p) × ((t : Tables) → single nat_cmp (pair_tuple p) ≡ pairs_after change t old run.now)) }
 {
     match (change, old) {
         (Change::Grow, None) if run.len() == 1 => Some(Node::Single(Pair(run[0].1, run[0].2))),
@@ -138,9 +136,7 @@ fn put_pair<M: Mix, W: Ledger>(
     requires lone { (p : Pair) × (node ≡ Node.Single p) }
     requires room { LeavesRoom context.old 1 }
     ensures stands { IfOk result (λ e. (p : Pair) → node ≡ Node.Single p → StandsAt context.new 2 (single nat_cmp (pair_tuple p)) e) }
-    ensures moved { IfOk result (λ e. AreMoved M.mixed context.old context.new (at_depth 2 (option_leads e)) nothing) }
-    ensures counts { OnOk result (CountsRiseBy context.old context.new (λ _ _. 1)) }
-    ensures stay { OnOk result (RowsStay context.old context.new) }
+    ensures held { IfOk result (λ e. IsInHand M.mixed context.old context.new (edge_hold 2 e) 1) }
     ensures kept { OnErr result (context.new ≡ context.old) }
     ensures ticks { interns.new ≡ interns.old + 1 }
 {
@@ -164,12 +160,10 @@ fn change_many_pairs<M: Mix, W: Ledger, V: Ledger>(
     requires some { 1 ≤ length run.now }
     requires order { AreInOrder trip_rest run.now }
     requires change { IsChange (grows change) (set_at context.old 2 old) (set_of_entries trip_rest run.now) }
-    requires room { LeavesRoom context.old (2 ^ 34 * length run.now) }
-    requires size { set.len (after (grows change) (set_at context.old 2 old) (set_of_entries trip_rest run.now)) < 2 ^ 64 }
-    ensures stands { IfOk result (StandsAt context.new 2 (after (grows change) (set_at context.old 2 old) (set_of_entries trip_rest run.now))) }
-    ensures moved { IfOk result (λ e. AreMoved M.mixed context.old context.new (at_depth 2 (option_leads e)) nothing) }
-    ensures counts { OnOk result (CountsRiseBy context.old context.new (λ _ _. 2 ^ 34 * length run.now)) }
-    ensures stay { OnOk result (RowsStay context.old context.new) }
+    requires room { LeavesRoom context.old (run_room (length run.now)) }
+    requires size { set.len (pairs_after change context.old old run.now) < 2 ^ 64 }
+    ensures stands { IfOk result (StandsAt context.new 2 (pairs_after change context.old old run.now)) }
+    ensures held { IfOk result (λ e. IsInHand M.mixed context.old context.new (edge_hold 2 e) (run_room (length run.now))) }
     ensures kept { OnErr result (context.new ≡ context.old) }
     ensures ticks { interns.new ≤ interns.old + 3 * length run.now }
 {
@@ -209,12 +203,10 @@ pub fn change_pairs<M: Mix, W: Ledger, V: Ledger>(
     requires some { 1 ≤ length run.now }
     requires order { AreInOrder trip_rest run.now }
     requires change { IsChange (grows change) (set_at context.old 2 old) (set_of_entries trip_rest run.now) }
-    requires room { LeavesRoom context.old (2 ^ 34 * length run.now) }
-    requires size { set.len (after (grows change) (set_at context.old 2 old) (set_of_entries trip_rest run.now)) < 2 ^ 64 }
-    ensures stands { IfOk result (StandsAt context.new 2 (after (grows change) (set_at context.old 2 old) (set_of_entries trip_rest run.now))) }
-    ensures moved { IfOk result (λ e. AreMoved M.mixed context.old context.new (at_depth 2 (option_leads e)) nothing) }
-    ensures counts { OnOk result (CountsRiseBy context.old context.new (λ _ _. 2 ^ 34 * length run.now)) }
-    ensures stay { OnOk result (RowsStay context.old context.new) }
+    requires room { LeavesRoom context.old (run_room (length run.now)) }
+    requires size { set.len (pairs_after change context.old old run.now) < 2 ^ 64 }
+    ensures stands { IfOk result (StandsAt context.new 2 (pairs_after change context.old old run.now)) }
+    ensures held { IfOk result (λ e. IsInHand M.mixed context.old context.new (edge_hold 2 e) (run_room (length run.now))) }
     ensures kept { OnErr result (context.new ≡ context.old) }
     ensures ticks { interns.new ≤ interns.old + 3 * length run.now }
 {

@@ -1,5 +1,5 @@
 //! Runs of entries with one first key.
-ghost use Rattle.std.specs.Prelude.{◌≡◌, ◌≢◌, ◌<◌, ◌≤◌, ℕ, length, slice_index_or};
+ghost use Rattle.std.specs.Prelude.{◌≡◌, ◌≢◌, ◌<◌, ◌≤◌, length, slice_index_or};
 ghost use Rattle.std.specs.List.{All};
 ghost use Rattle.std.proofs.Common.{take};
 ghost use Rattle.trie_depth.specs.declared.id.Pair.{Pair};

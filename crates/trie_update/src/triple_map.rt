@@ -1,13 +1,12 @@
 //! A map of a node of depth three changed.
-ghost use Rattle.std.specs.Prelude.{◌≡◌, ℕ, ◌+◌, ◌*◌, ◌≤◌, ◌^◌, [], IfOk, OnOk, OnErr, length};
+ghost use Rattle.std.specs.Prelude.{◌≡◌, ◌+◌, ◌*◌, ◌≤◌, ◌^◌, [], IfOk, OnOk, OnErr, length};
 ghost use Rattle.edge_map.specs.Entries.{KeysRise};
 ghost use Rattle.edge_map.specs.Edges.{changed};
 ghost use Rattle.trie_depth.specs.Tuples.{trip_tuple};
-ghost use Rattle.trie_node.specs.Sets.{edges_in};
-ghost use Rattle.trie_context.specs.Holds.{at_depth, nothing, CountsRiseBy, RowsStay};
-ghost use Rattle.trie_context.specs.Kept.{AreMoved};
-ghost use Rattle.trie_update.specs.Batches.{set_of_entries, AreInOrder};
-ghost use Rattle.trie_update.specs.Rooms.{LeavesRoom, AllFit, changes_lead, AreChanges, AreChanged, AreSmallAfter};
+ghost use Rattle.trie_update.specs.After.{triples_of, map_hold, changes_hold, run_room, triples_room};
+ghost use Rattle.trie_update.specs.InHand.{IsInHand};
+ghost use Rattle.trie_update.specs.Batches.{AreInOrder};
+ghost use Rattle.trie_update.specs.Rooms.{LeavesRoom, AllFit, AreChanges, AreChanged, AreSmallAfter};
 
 use crate::change::Change;
 use crate::hand::{Changes, release_changes};
@@ -34,14 +33,12 @@ fn triple_changes<M: Mix, W: Ledger, V: Ledger>(
     requires none { changes.old.items ≡ [] }
     requires fits { AllFit context.old 2 old.now }
     requires order { AreInOrder trip_tuple triples.now }
-    requires change { AreChanges change context.old 2 old.now (set_of_entries trip_tuple triples.now) }
-    requires size { AreSmallAfter change context.old 2 old.now (set_of_entries trip_tuple triples.now) }
-    requires room { LeavesRoom context.old (2 ^ 34 * length triples.now) }
+    requires change { AreChanges change context.old 2 old.now (triples_of triples.now) }
+    requires size { AreSmallAfter change context.old 2 old.now (triples_of triples.now) }
+    requires room { LeavesRoom context.old (run_room (length triples.now)) }
     ensures rise { KeysRise changes.new.items }
-    ensures changed { OnOk result (AreChanged change context.old context.new 2 old.now (set_of_entries trip_tuple triples.now) (changed old.now changes.new.items)) }
-    ensures moved { AreMoved M.mixed context.old context.new (at_depth 2 (changes_lead changes.new.items)) nothing }
-    ensures counts { CountsRiseBy context.old context.new (λ _ _. 2 ^ 34 * length triples.now) }
-    ensures stay { RowsStay context.old context.new }
+    ensures changed { OnOk result (AreChanged change context.old context.new 2 old.now (triples_of triples.now) (changed old.now changes.new.items)) }
+    ensures held { IsInHand M.mixed context.old context.new (changes_hold 2 changes.new.items) (run_room (length triples.now)) }
     ensures ticks { interns.new ≤ interns.old + 3 * length triples.now }
 {
     // This call tells the proof that the tables are kept.
@@ -64,13 +61,11 @@ pub fn change_triple_map<M: Mix, W: Ledger, V: Ledger>(
 ) -> Result<EdgeMap, Memory>
     requires fits { AllFit context.old 2 old.now }
     requires order { AreInOrder trip_tuple triples.now }
-    requires change { AreChanges change context.old 2 old.now (set_of_entries trip_tuple triples.now) }
-    requires size { AreSmallAfter change context.old 2 old.now (set_of_entries trip_tuple triples.now) }
-    requires room { LeavesRoom context.old (2 ^ 34 * length triples.now + 2 ^ 32) }
-    ensures changed { IfOk result (AreChanged change context.old context.new 2 old.now (set_of_entries trip_tuple triples.now)) }
-    ensures moved { IfOk result (λ m. AreMoved M.mixed context.old context.new (at_depth 2 (edges_in m)) nothing) }
-    ensures counts { OnOk result (CountsRiseBy context.old context.new (λ _ _. 2 ^ 34 * length triples.now + 2 ^ 32)) }
-    ensures stay { OnOk result (RowsStay context.old context.new) }
+    requires change { AreChanges change context.old 2 old.now (triples_of triples.now) }
+    requires size { AreSmallAfter change context.old 2 old.now (triples_of triples.now) }
+    requires room { LeavesRoom context.old (triples_room (length triples.now)) }
+    ensures changed { IfOk result (AreChanged change context.old context.new 2 old.now (triples_of triples.now)) }
+    ensures held { IfOk result (λ m. IsInHand M.mixed context.old context.new (map_hold 2 m) (triples_room (length triples.now))) }
     ensures kept { OnErr result (context.new ≡ context.old) }
     ensures ticks { interns.new ≤ interns.old + 3 * length triples.now }
 {

@@ -1,15 +1,17 @@
 //! A graph changed.
-ghost use Rattle.std.specs.Prelude.{◌≡◌, ℕ, ◌+◌, ◌*◌, ◌<◌, ◌≤◌, ◌^◌, IfOk, OnOk, OnErr, length};
+ghost use Rattle.std.specs.Prelude.{◌≡◌, ℕ, ◌+◌, ◌*◌, ◌<◌, ◌≤◌, ◌^◌, IfOk, OnErr, length};
 ghost use Rattle.std.specs.Ordering.{nat_cmp};
 ghost use Rattle.std.specs.FinSet as set;
-ghost use Rattle.hypertrie_model.specs.Changes.{after, IsChange};
+ghost use Rattle.hypertrie_model.specs.Changes.{IsChange};
 ghost use Rattle.hypertrie_model.specs.Sets.{single};
 ghost use Rattle.trie_depth.specs.Tuples.{trip_tuple};
 ghost use Rattle.trie_node.specs.Sets.{edges_in, set_hash};
-ghost use Rattle.trie_context.specs.Holds.{holds_of, at_depth, nothing, CountsRiseBy, RowsStay};
+ghost use Rattle.trie_context.specs.Holds.{holds_of, nothing, CountsRiseBy, RowsStay};
 ghost use Rattle.trie_context.specs.Kept.{AreMoved};
 ghost use Rattle.trie_context.specs.Roots.{root_set, root_hold};
-ghost use Rattle.trie_update.specs.Batches.{set_of_entries, IsOnce};
+ghost use Rattle.trie_update.specs.After.{triples_of, triples_after, three_maps, map_hold, triples_room, graph_room};
+ghost use Rattle.trie_update.specs.InHand.{IsInHand};
+ghost use Rattle.trie_update.specs.Batches.{IsOnce};
 ghost use Rattle.trie_update.specs.Changes.{grows};
 ghost use Rattle.trie_update.specs.Rooms.{LeavesRoom, AllFit, AreSlicesAt, row_set_at, IsRowThere, first_set};
 
@@ -74,13 +76,11 @@ fn change_triple_position<M: Mix, W: Ledger, V: Ledger>(
     requires position { position < 3 }
     requires there { IsRowThere context.old old }
     requires once { IsOnce trip_tuple batch.now }
-    requires change { IsChange (grows change) (row_set_at context.old old) (set_of_entries trip_tuple batch.now) }
-    requires size { set.len (after (grows change) (row_set_at context.old old) (set_of_entries trip_tuple batch.now)) < 2 ^ 64 }
-    requires room { LeavesRoom context.old (2 ^ 34 * length batch.now + 2 ^ 32) }
-    ensures slices { IfOk result (AreSlicesAt context.new 2 (after (grows change) (row_set_at context.old old) (set_of_entries trip_tuple batch.now)) position) }
-    ensures moved { IfOk result (λ m. AreMoved M.mixed context.old context.new (at_depth 2 (edges_in m)) nothing) }
-    ensures counts { OnOk result (CountsRiseBy context.old context.new (λ _ _. 2 ^ 34 * length batch.now + 2 ^ 32)) }
-    ensures stay { OnOk result (RowsStay context.old context.new) }
+    requires change { IsChange (grows change) (row_set_at context.old old) (triples_of batch.now) }
+    requires size { set.len (triples_after change context.old old batch.now) < 2 ^ 64 }
+    requires room { LeavesRoom context.old (triples_room (length batch.now)) }
+    ensures slices { IfOk result (AreSlicesAt context.new 2 (triples_after change context.old old batch.now) position) }
+    ensures held { IfOk result (λ m. IsInHand M.mixed context.old context.new (map_hold 2 m) (triples_room (length batch.now))) }
     ensures kept { OnErr result (context.new ≡ context.old) }
     ensures ticks { interns.new ≤ interns.old + 3 * length batch.now }
 {
@@ -101,15 +101,13 @@ fn change_positions<M: Mix, W: Ledger, V: Ledger>(
 ) -> Result<(EdgeMap, EdgeMap, EdgeMap), Memory>
     requires there { IsRowThere context.old old }
     requires once { IsOnce trip_tuple batch.now }
-    requires change { IsChange (grows change) (row_set_at context.old old) (set_of_entries trip_tuple batch.now) }
-    requires size { set.len (after (grows change) (row_set_at context.old old) (set_of_entries trip_tuple batch.now)) < 2 ^ 64 }
-    requires room { LeavesRoom context.old (3 * (2 ^ 34 * length batch.now + 2 ^ 32)) }
-    ensures first { IfOk result (λ m. AreSlicesAt context.new 2 (after (grows change) (row_set_at context.old old) (set_of_entries trip_tuple batch.now)) 0 m.0) }
-    ensures second { IfOk result (λ m. AreSlicesAt context.new 2 (after (grows change) (row_set_at context.old old) (set_of_entries trip_tuple batch.now)) 1 m.1) }
-    ensures third { IfOk result (λ m. AreSlicesAt context.new 2 (after (grows change) (row_set_at context.old old) (set_of_entries trip_tuple batch.now)) 2 m.2) }
-    ensures moved { IfOk result (λ m. AreMoved M.mixed context.old context.new (at_depth 2 (λ r. edges_in m.0 r + (edges_in m.1 r + edges_in m.2 r))) nothing) }
-    ensures counts { OnOk result (CountsRiseBy context.old context.new (λ _ _. 3 * (2 ^ 34 * length batch.now + 2 ^ 32))) }
-    ensures stay { OnOk result (RowsStay context.old context.new) }
+    requires change { IsChange (grows change) (row_set_at context.old old) (triples_of batch.now) }
+    requires size { set.len (triples_after change context.old old batch.now) < 2 ^ 64 }
+    requires room { LeavesRoom context.old (3 * triples_room (length batch.now)) }
+    ensures first { IfOk result (λ m. AreSlicesAt context.new 2 (triples_after change context.old old batch.now) 0 m.0) }
+    ensures second { IfOk result (λ m. AreSlicesAt context.new 2 (triples_after change context.old old batch.now) 1 m.1) }
+    ensures third { IfOk result (λ m. AreSlicesAt context.new 2 (triples_after change context.old old batch.now) 2 m.2) }
+    ensures held { IfOk result (λ m. IsInHand M.mixed context.old context.new (three_maps m.0 m.1 m.2) (3 * triples_room (length batch.now))) }
     ensures kept { OnErr result (context.new ≡ context.old) }
     ensures ticks { interns.new ≤ interns.old + 9 * length batch.now }
 {
@@ -161,7 +159,7 @@ fn release_positions<M: Mix>(
     third: &EdgeMap,
 )
     requires { (r : ℕ) → edges_in first.now r + (edges_in second.now r + edges_in third.now r) ≤ holds_of context.old 2 r }
-    ensures moved { AreMoved M.mixed context.old context.new nothing (at_depth 2 (λ r. edges_in first.now r + (edges_in second.now r + edges_in third.now r))) }
+    ensures moved { AreMoved M.mixed context.old context.new nothing (three_maps first.now second.now third.now) }
     ensures counts { CountsRiseBy context.old context.new nothing }
     ensures came { RowsStay context.new context.old }
 {
@@ -182,13 +180,11 @@ pub fn change_root<M: Mix, W: Ledger, V: Ledger>(
 ) -> Result<Root, Memory>
     requires there { IsRowThere context.old old }
     requires once { IsOnce trip_tuple batch.now }
-    requires change { IsChange (grows change) (row_set_at context.old old) (set_of_entries trip_tuple batch.now) }
-    requires size { set.len (after (grows change) (row_set_at context.old old) (set_of_entries trip_tuple batch.now)) < 2 ^ 64 }
-    requires room { LeavesRoom context.old (3 * (2 ^ 34 * length batch.now + 2 ^ 32) + 1) }
-    ensures set { IfOk result (λ root. root_set context.new root ≡ after (grows change) (row_set_at context.old old) (set_of_entries trip_tuple batch.now)) }
-    ensures moved { IfOk result (λ root. AreMoved M.mixed context.old context.new (root_hold root) nothing) }
-    ensures counts { OnOk result (CountsRiseBy context.old context.new (λ _ _. 3 * (2 ^ 34 * length batch.now + 2 ^ 32) + 1)) }
-    ensures stay { OnOk result (RowsStay context.old context.new) }
+    requires change { IsChange (grows change) (row_set_at context.old old) (triples_of batch.now) }
+    requires size { set.len (triples_after change context.old old batch.now) < 2 ^ 64 }
+    requires room { LeavesRoom context.old (graph_room (length batch.now)) }
+    ensures set { IfOk result (λ root. root_set context.new root ≡ triples_after change context.old old batch.now) }
+    ensures held { IfOk result (λ root. IsInHand M.mixed context.old context.new (root_hold root) (graph_room (length batch.now))) }
     ensures kept { OnErr result (context.new ≡ context.old) }
     ensures ticks { interns.new ≤ interns.old + (9 * length batch.now + 1) }
 {

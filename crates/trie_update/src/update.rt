@@ -1,16 +1,18 @@
 //! A graph grown and shrunk by a batch.
-ghost use Rattle.std.specs.Prelude.{◌≡◌, ℕ, ◌+◌, ◌*◌, ◌<◌, ◌≤◌, ◌^◌, true, false, IfOk, OnOk, OnErr, length};
+ghost use Rattle.std.specs.Prelude.{◌≡◌, ◌+◌, ◌*◌, ◌<◌, ◌≤◌, ◌^◌, true, false, IfOk, OnOk, OnErr, length};
 ghost use Rattle.std.specs.Ordering.{nat_cmp};
 ghost use Rattle.std.specs.FinSet as set;
-ghost use Rattle.hypertrie_model.specs.Changes.{after, IsChange};
+ghost use Rattle.hypertrie_model.specs.Changes.{IsChange};
 ghost use Rattle.hypertrie_model.specs.Sets.{single};
 ghost use Rattle.trie_depth.specs.Tuples.{trip_tuple};
-ghost use Rattle.trie_context.specs.Holds.{nothing, CountsRiseBy, RowsStay};
+ghost use Rattle.trie_context.specs.Holds.{nothing, CountsRiseBy};
 ghost use Rattle.trie_context.specs.Kept.{AreMoved};
 ghost use Rattle.trie_context.specs.RootShape.{OnlyRootHeld};
 ghost use Rattle.trie_context.specs.Roots.{root_set, root_hold, IsHeld};
 ghost use Rattle.trie_context.specs.Shape.{HasShape};
-ghost use Rattle.trie_update.specs.Batches.{set_of_entries, IsOnce};
+ghost use Rattle.trie_update.specs.After.{triples_of, one_after, graph_after, graph_room};
+ghost use Rattle.trie_update.specs.InHand.{IsInHand};
+ghost use Rattle.trie_update.specs.Batches.{IsOnce};
 ghost use Rattle.trie_update.specs.Changes.{grows};
 ghost use Rattle.trie_update.specs.Rooms.{LeavesRoom, CountsUpTo, HeldStay};
 
@@ -33,13 +35,11 @@ fn change_one<M: Mix, W: Ledger, V: Ledger>(
     retains: &mut Steps<V>,
 ) -> Result<Root, Memory>
     requires once { IsOnce trip_tuple batch.now }
-    requires change { IsChange (grows change) (single nat_cmp (trip_tuple triple)) (set_of_entries trip_tuple batch.now) }
+    requires change { IsChange (grows change) (single nat_cmp (trip_tuple triple)) (triples_of batch.now) }
     requires size { length batch.now < 2 ^ 63 }
-    requires room { LeavesRoom context.old (3 * (2 ^ 34 * (length batch.now + 1) + 2 ^ 32) + 1) }
-    ensures set { IfOk result (λ root. root_set context.new root ≡ after (grows change) (single nat_cmp (trip_tuple triple)) (set_of_entries trip_tuple batch.now)) }
-    ensures moved { IfOk result (λ root. AreMoved M.mixed context.old context.new (root_hold root) nothing) }
-    ensures counts { OnOk result (CountsRiseBy context.old context.new (λ _ _. 3 * (2 ^ 34 * (length batch.now + 1) + 2 ^ 32) + 1)) }
-    ensures stay { OnOk result (RowsStay context.old context.new) }
+    requires room { LeavesRoom context.old (graph_room (length batch.now + 1)) }
+    ensures set { IfOk result (λ root. root_set context.new root ≡ one_after change triple batch.now) }
+    ensures held { IfOk result (λ root. IsInHand M.mixed context.old context.new (root_hold root) (graph_room (length batch.now + 1))) }
     ensures kept { OnErr result (context.new ≡ context.old) }
     ensures ticks { interns.new ≤ interns.old + (9 * length batch.now + 10) }
 {
@@ -69,14 +69,12 @@ fn change_graph<M: Mix, W: Ledger, V: Ledger>(
 ) -> Result<Root, Memory>
     requires held { IsHeld context.old root.now }
     requires once { IsOnce trip_tuple batch.now }
-    requires change { IsChange (grows change) (root_set context.old root.now) (set_of_entries trip_tuple batch.now) }
+    requires change { IsChange (grows change) (root_set context.old root.now) (triples_of batch.now) }
     requires counts { CountsUpTo context.old (2 ^ 96) }
     requires size { set.len (root_set context.old root.now) ≤ 536870912 }
     requires batch { length batch.now ≤ 536870912 }
-    ensures set { IfOk result (λ new. root_set context.new new ≡ after (grows change) (root_set context.old root.now) (set_of_entries trip_tuple batch.now)) }
-    ensures moved { IfOk result (λ new. AreMoved M.mixed context.old context.new (root_hold new) nothing) }
-    ensures counts { OnOk result (CountsRiseBy context.old context.new (λ _ _. 2 ^ 65)) }
-    ensures stay { OnOk result (RowsStay context.old context.new) }
+    ensures set { IfOk result (λ new. root_set context.new new ≡ graph_after change context.old root.now batch.now) }
+    ensures held { IfOk result (λ new. IsInHand M.mixed context.old context.new (root_hold new) (2 ^ 65)) }
     ensures kept { OnErr result (context.new ≡ context.old) }
     ensures ticks { interns.new ≤ interns.old + (9 * length batch.now + 10) }
 {
@@ -102,11 +100,11 @@ fn update<M: Mix, W: Ledger, V: Ledger>(
 ) -> Result<(), Memory>
     requires held { IsHeld context.old root.old }
     requires once { IsOnce trip_tuple batch.now }
-    requires change { IsChange (grows change) (root_set context.old root.old) (set_of_entries trip_tuple batch.now) }
+    requires change { IsChange (grows change) (root_set context.old root.old) (triples_of batch.now) }
     requires counts { CountsUpTo context.old (2 ^ 96) }
     requires size { set.len (root_set context.old root.old) ≤ 536870912 }
     requires batch { length batch.now ≤ 536870912 }
-    ensures set { OnOk result (root_set context.new root.new ≡ after (grows change) (root_set context.old root.old) (set_of_entries trip_tuple batch.now)) }
+    ensures set { OnOk result (root_set context.new root.new ≡ graph_after change context.old root.old batch.now) }
     ensures held { IsHeld context.new root.new }
     ensures moved { OnOk result (AreMoved M.mixed context.old context.new (root_hold root.new) (root_hold root.old)) }
     ensures counts { OnOk result (CountsRiseBy context.old context.new (λ _ _. 2 ^ 65)) }
@@ -136,10 +134,10 @@ pub fn grow<M: Mix, W: Ledger, V: Ledger>(
 ) -> Result<(), Memory>
     requires held { IsHeld context.old root.old }
     requires once { IsOnce trip_tuple batch.now }
-    requires new { IsChange true (root_set context.old root.old) (set_of_entries trip_tuple batch.now) }
+    requires new { IsChange true (root_set context.old root.old) (triples_of batch.now) }
     requires counts { CountsUpTo context.old (2 ^ 96) }
-    requires size { set.len (set.union (root_set context.old root.old) (set_of_entries trip_tuple batch.now)) ≤ 536870912 }
-    ensures set { OnOk result (root_set context.new root.new ≡ set.union (root_set context.old root.old) (set_of_entries trip_tuple batch.now)) }
+    requires size { set.len (set.union (root_set context.old root.old) (triples_of batch.now)) ≤ 536870912 }
+    ensures set { OnOk result (root_set context.new root.new ≡ set.union (root_set context.old root.old) (triples_of batch.now)) }
     ensures held { IsHeld context.new root.new }
     ensures moved { OnOk result (AreMoved M.mixed context.old context.new (root_hold root.new) (root_hold root.old)) }
     ensures shape { OnOk result (OnlyRootHeld context.old root.old → HasShape context.new (root_set context.new root.new)) }
@@ -163,10 +161,10 @@ pub fn shrink<M: Mix, W: Ledger, V: Ledger>(
 ) -> Result<(), Memory>
     requires held { IsHeld context.old root.old }
     requires once { IsOnce trip_tuple batch.now }
-    requires there { IsChange false (root_set context.old root.old) (set_of_entries trip_tuple batch.now) }
+    requires there { IsChange false (root_set context.old root.old) (triples_of batch.now) }
     requires counts { CountsUpTo context.old (2 ^ 96) }
-    requires size { set.len (set.union (root_set context.old root.old) (set_of_entries trip_tuple batch.now)) ≤ 536870912 }
-    ensures set { OnOk result (root_set context.new root.new ≡ set.difference (root_set context.old root.old) (set_of_entries trip_tuple batch.now)) }
+    requires size { set.len (set.union (root_set context.old root.old) (triples_of batch.now)) ≤ 536870912 }
+    ensures set { OnOk result (root_set context.new root.new ≡ set.difference (root_set context.old root.old) (triples_of batch.now)) }
     ensures held { IsHeld context.new root.new }
     ensures moved { OnOk result (AreMoved M.mixed context.old context.new (root_hold root.new) (root_hold root.old)) }
     ensures shape { OnOk result (OnlyRootHeld context.old root.old → HasShape context.new (root_set context.new root.new)) }

@@ -92,3 +92,6 @@ returns-in-Ok-clause-counts g c =
     let t = c.args.tables.now in
     subst (λ u. CountsRiseBy t u (at_depth c.args.depth (one_at c.in-Ok.row))) (sym c.in-Ok.ensures.added)
     (insert_counts t c.args.depth c.requires.low c.requires.high c.in-Ok.row (record { node = c.args.node; count = 1; hash = c.hash_of-hash.result }) (omega arith))
+
+pub returns-in-Err-clause-came : goal.returns-in-Err-clause-came
+returns-in-Err-clause-came g c = subst (RowsStay c.release_edges-in-Err.new.tables) c.in-Err.ensures.kept c.release_edges-in-Err.ensures.rows

@@ -1,10 +1,11 @@
 use Rattle.std.proofs.Common.{◌≡◌, Result, Ok, Err, Some, sym, subst, arith}
 use Rattle.std.specs.Result.{OnErr}
 use Rattle.trie_context.specs.FitEdges.{StandsAt, option_leads}
-use Rattle.trie_context.specs.Holds.{holds_of, at_depth, nothing}
+use Rattle.trie_context.specs.Holds.{holds_of, one_at, at_depth, nothing}
 use Rattle.trie_context.specs.Kept.{AreMoved}
 use Rattle.trie_update.specs.Batches.{pair_rest}
 use Rattle.trie_update.specs.BatchLaws.{order_once}
+use Rattle.trie_context.specs.MoveLaws.{at_most, one_at_most, counts_as_before, rows_as_before}
 use Rattle.trie_update.proofs.KeyNodeLemmas.{changed_set, made_map, made_parts, few_stand, few_moved, keys_formed, keys_held, row_edge, row_moved, row_given}
 use Rattle.trie_update.proofs.keys.change_many_keys.Goals as goal
 
@@ -17,10 +18,14 @@ returns-then-size-lt2-clause-stands g c =
     let keys = made_map g.M.Mix.mixed c.args.context.now c.tables-tables.ensures.kept c.args.change c.args.old c.requires.fits c.args.run.now c.in_ok-keys.keys c.in_ok-keys.ensures in
     few_stand _ c.in_ok-keys.keys keys c.args.context.now (omega (arith, c.len-size.ensures, c.if-size-lt2.true)) c.first_edge.result c.first_edge.ensures.none c.first_edge.ensures.there
 
-pub returns-then-size-lt2-clause-moved : goal.returns-then-size-lt2-clause-moved
-returns-then-size-lt2-clause-moved g c =
+pub returns-then-size-lt2-clause-held : goal.returns-then-size-lt2-clause-held
+returns-then-size-lt2-clause-held g c =
     let keys = made_map g.M.Mix.mixed c.args.context.now c.tables-tables.ensures.kept c.args.change c.args.old c.requires.fits c.args.run.now c.in_ok-keys.keys c.in_ok-keys.ensures in
-    few_moved _ c.in_ok-keys.keys keys g.M.Mix.mixed c.args.context.now c.tables-tables.ensures.kept c.first_edge.result c.first_edge.ensures.there
+    record {
+      moved = few_moved _ c.in_ok-keys.keys keys g.M.Mix.mixed c.args.context.now c.tables-tables.ensures.kept c.first_edge.result c.first_edge.ensures.there;
+      counts = counts_as_before c.args.context.now (λ _ _. 1);
+      stay = rows_as_before c.args.context.now;
+    }
 
 pub toggled_keys-requires : goal.toggled_keys-requires
 toggled_keys-requires g c = order_once pair_rest c.args.run.now c.requires.order
@@ -48,8 +53,12 @@ returns-clause-stands g c =
     subst (λ e. StandsAt c.intern.new.self 1 S (Some e)) (sym c.into_edge.ensures)
     (row_edge g.M.Mix.mixed S c.len-size.result c.toggled_keys.result c.in_ok-keys.keys c.new.result c.new-2.result parts c.args.context.now c.intern.new.self c.in_ok-held.held c.in_ok-held.ensures.there)
 
-pub returns-clause-moved : goal.returns-clause-moved
-returns-clause-moved g c =
+pub returns-clause-held : goal.returns-clause-held
+returns-clause-held g c =
     let parts = made_parts g.M.Mix.mixed c.args.context.now c.tables-tables.ensures.kept c.args.change c.args.old c.requires.fits c.args.run.now c.requires.change c.key_hash.result c.len-size.result c.toggled_keys.result c.in_ok-keys.keys c.new.result c.new-2.result c.in_ok-keys.ensures c.len-size.ensures c.if-size-lt2.false c.key_hash.ensures c.toggled_keys.ensures c.new.ensures c.new-2.ensures in
-    subst (λ e. AreMoved g.M.Mix.mixed c.args.context.now c.intern.new.self (at_depth 1 (option_leads (Some e))) nothing) (sym c.into_edge.ensures)
-    (row_moved g.M.Mix.mixed _ c.len-size.result c.toggled_keys.result c.in_ok-keys.keys c.new.result c.new-2.result parts c.args.context.now c.intern.new.self c.in_ok-held.held c.in_ok-held.ensures.moved)
+    record {
+      moved = subst (λ e. AreMoved g.M.Mix.mixed c.args.context.now c.intern.new.self (at_depth 1 (option_leads (Some e))) nothing) (sym c.into_edge.ensures)
+          (row_moved g.M.Mix.mixed _ c.len-size.result c.toggled_keys.result c.in_ok-keys.keys c.new.result c.new-2.result parts c.args.context.now c.intern.new.self c.in_ok-held.held c.in_ok-held.ensures.moved);
+      counts = λ d r. omega (arith, c.in_ok-held.ensures.counts d r, at_most 1 (one_at c.in_ok-held.held) 1 (one_at_most c.in_ok-held.held) d r);
+      stay = c.in_ok-held.ensures.stay;
+    }

@@ -58,10 +58,10 @@ loop-first-preserved g c =
     let more : length (so_far.done ++ run) ≡ length so_far.done + length run = length-append so_far.done run in (
       step key_of pair_rest g.M.Mix.mixed c.args.change 1 c.args.context.now c.args.old.now c.args.pairs.now c.tables.ensures.kept c.requires.fits c.requires.order
           c.loop-first.context c.loop-first.rest.now c.loop-first.changes.items so_far c.in-Some.first.now.0 run c.split_at.result.1.now turn
-          c.change_keys.new.context c.in_ok-edge.edge c.in_ok-edge.ensures.moved c.in_ok-edge.ensures.stay
+          c.change_keys.new.context c.in_ok-edge.edge c.in_ok-edge.ensures.held.moved c.in_ok-edge.ensures.held.stay
           (subst (λ o. StandsAt c.change_keys.new.context 1 (after (grows c.args.change) (set_at c.loop-first.context 1 o) (set_of_entries pair_rest run)) c.in_ok-edge.edge) c.get.ensures c.in_ok-edge.ensures.stands)
           c.push_reserved.new.self.items
           (c.push_reserved.ensures.items ∙ ap (λ cs. cs ++ (c.in-Some.first.now.0, c.in_ok-edge.edge) ∷ []) c.in_ok-reserve.ensures.items),
-      (λ d r. omega (arith, c.loop-first.invariant.1 d r, c.in_ok-edge.ensures.counts d r, more, turn.some)),
+      (λ d r. omega (arith, c.loop-first.invariant.1 d r, c.in_ok-edge.ensures.held.counts d r, more, turn.some)),
       omega (arith, c.loop-first.invariant.2, c.change_keys.ensures.ticks, more, turn.some),
     )

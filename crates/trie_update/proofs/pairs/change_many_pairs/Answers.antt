@@ -3,7 +3,7 @@ use Rattle.std.specs.FinSet as set
 use Rattle.hypertrie_model.specs.Changes.{after, IsChange}
 use Rattle.trie_node.specs.Sets.{edges_in}
 use Rattle.trie_context.specs.Rows.{set_of}
-use Rattle.trie_context.specs.Holds.{holds_of, at_depth, nothing, RowsStay}
+use Rattle.trie_context.specs.Holds.{holds_of, one_at, at_depth, nothing, RowsStay}
 use Rattle.trie_context.specs.Kept.{AreMoved}
 use Rattle.trie_context.specs.FitEdges.{set_at}
 use Rattle.trie_update.specs.Batches.{set_of_entries, trip_rest}
@@ -11,6 +11,7 @@ use Rattle.trie_update.specs.BatchLaws.{order_once}
 use Rattle.trie_update.specs.Changes.{grows}
 use Rattle.trie_update.specs.FigureLaws.{has_size, size_is, hash_is}
 use Rattle.trie_update.specs.HandLaws.{fits_stay, set_at_stays, hand_held, given_back}
+use Rattle.trie_context.specs.MoveLaws.{at_most, one_at_most, rows_stay_on}
 use Rattle.trie_update.proofs.PairLemmas.{on_err}
 use Rattle.trie_update.proofs.PairChanges.{both, changed_deep, none_moved, pair_parts, node_held, node_given, edge_stands, edge_moved}
 use Rattle.trie_update.proofs.pairs.change_many_pairs.Goals as goal
@@ -23,23 +24,23 @@ pub toggled_pairs-hash-requires : goal.toggled_pairs-hash-requires
 toggled_pairs-hash-requires g c = order_once trip_rest c.args.run.now c.requires.order
 
 pub change_pair_position-requires-2-clause-fits : goal.change_pair_position-requires-2-clause-fits
-change_pair_position-requires-2-clause-fits g c = fits_stay g.M.Mix.mixed c.args.context.now c.change_pair_position.new.context c.tables-tables.ensures.kept c.in_ok-first.ensures.stay 2 c.args.old c.requires.fits
+change_pair_position-requires-2-clause-fits g c = fits_stay g.M.Mix.mixed c.args.context.now c.change_pair_position.new.context c.tables-tables.ensures.kept c.in_ok-first.ensures.held.stay 2 c.args.old c.requires.fits
 
 pub change_pair_position-requires-2-clause-change : goal.change_pair_position-requires-2-clause-change
 change_pair_position-requires-2-clause-change g c =
     subst (λ S. IsChange (grows c.args.change) S (set_of_entries trip_rest c.args.run.now))
-    (sym (set_at_stays g.M.Mix.mixed c.args.context.now c.change_pair_position.new.context c.tables-tables.ensures.kept c.in_ok-first.ensures.stay 2 c.args.old c.requires.fits)) c.requires.change
+    (sym (set_at_stays g.M.Mix.mixed c.args.context.now c.change_pair_position.new.context c.tables-tables.ensures.kept c.in_ok-first.ensures.held.stay 2 c.args.old c.requires.fits)) c.requires.change
 
 pub release_map-requires : goal.release_map-requires
 release_map-requires g c = record {
   held = λ r.
-      subst (λ u. edges_in c.in_ok-first.first r ≤ holds_of u 1 r) (sym c.in-Err.ensures.kept) (hand_held 1 (edges_in c.in_ok-first.first) c.in_ok-first.ensures.moved r);
+      subst (λ u. edges_in c.in_ok-first.first r ≤ holds_of u 1 r) (sym c.in-Err.ensures.kept) (hand_held 1 (edges_in c.in_ok-first.first) c.in_ok-first.ensures.held.moved r);
 }
 
 pub returns-in-Err-clause-kept : goal.returns-in-Err-clause-kept
 returns-in-Err-clause-kept g c =
     given_back g.M.Mix.mixed c.args.context.now c.change_pair_position.new.context c.release_map.new.self c.tables-tables.ensures.kept 1 (edges_in c.in_ok-first.first) (edges_in c.in_ok-first.first)
-    c.in_ok-first.ensures.moved c.in_ok-first.ensures.stay
+    c.in_ok-first.ensures.held.moved c.in_ok-first.ensures.held.stay
     (subst (λ u. AreMoved g.M.Mix.mixed u c.release_map.new.self nothing (at_depth 1 (edges_in c.in_ok-first.first))) c.in-Err.ensures.kept c.release_map.ensures.moved)
     (subst (λ u. RowsStay c.release_map.new.self u) c.in-Err.ensures.kept c.release_map.ensures.came)
     (λ r. refl)
@@ -53,8 +54,8 @@ returns-then-size-eq0-clause-stands g c =
     let sized : c.changed_size-size.result ≡ set.len G = c.changed_size-size.ensures ∙ size_is c.args.change H B c.requires.change c.pair_figures-size.result.0 (length c.args.run.now) c.pair_figures-size.ensures.size (order_once trip_rest c.args.run.now c.requires.order) in
     set.empty_of_len G (sym sized ∙ c.if-size-eq0.true)
 
-pub returns-then-size-eq0-clause-moved : goal.returns-then-size-eq0-clause-moved
-returns-then-size-eq0-clause-moved g c =
+pub returns-then-size-eq0-clause-held : goal.returns-then-size-eq0-clause-held
+returns-then-size-eq0-clause-held g c =
     let t = c.args.context.now in
     let H = set_at t 2 c.args.old in
     let B = set_of_entries trip_rest c.args.run.now in
@@ -63,8 +64,12 @@ returns-then-size-eq0-clause-moved g c =
     let u = c.change_pair_position-2.new.context in
     let kept = c.tables-tables.ensures.kept in
     let made = both g.M.Mix.mixed t kept c.change_pair_position.new.context u c.args.change c.args.old c.requires.fits B c.in_ok-first.first c.in-Ok.second
-    c.in_ok-first.ensures.slices c.in_ok-first.ensures.moved c.in_ok-first.ensures.stay c.in-Ok.ensures.slices c.in-Ok.ensures.moved c.in-Ok.ensures.stay in
-    none_moved g.M.Mix.mixed t kept u G c.in_ok-first.first c.in-Ok.second made (set.empty_of_len G (sym sized ∙ c.if-size-eq0.true))
+    c.in_ok-first.ensures.slices c.in_ok-first.ensures.held.moved c.in_ok-first.ensures.held.stay c.in-Ok.ensures.slices c.in-Ok.ensures.held.moved c.in-Ok.ensures.held.stay in
+    record {
+      moved = none_moved g.M.Mix.mixed t kept u G c.in_ok-first.first c.in-Ok.second made (set.empty_of_len G (sym sized ∙ c.if-size-eq0.true));
+      counts = λ d r. omega (arith, c.in_ok-first.ensures.held.counts d r, c.in-Ok.ensures.held.counts d r, c.requires.some);
+      stay = rows_stay_on t c.change_pair_position.new.context u c.in_ok-first.ensures.held.stay c.in-Ok.ensures.held.stay;
+    }
 
 pub intern-requires-clause-form : goal.intern-requires-clause-form
 intern-requires-clause-form g c =
@@ -76,7 +81,7 @@ intern-requires-clause-form g c =
     let u = c.change_pair_position-2.new.context in
     let kept = c.tables-tables.ensures.kept in
     let made = both g.M.Mix.mixed t kept c.change_pair_position.new.context u c.args.change c.args.old c.requires.fits B c.in_ok-first.first c.in-Ok.second
-    c.in_ok-first.ensures.slices c.in_ok-first.ensures.moved c.in_ok-first.ensures.stay c.in-Ok.ensures.slices c.in-Ok.ensures.moved c.in-Ok.ensures.stay in
+    c.in_ok-first.ensures.slices c.in_ok-first.ensures.held.moved c.in_ok-first.ensures.held.stay c.in-Ok.ensures.slices c.in-Ok.ensures.held.moved c.in-Ok.ensures.held.stay in
     let some : 1 ≤ set.len G = let not = c.if-size-eq0.false in omega arith in
     let hashed = c.toggled_pairs-hash.ensures ∙ hash_is g.M.Mix.mixed 2 (grows c.args.change) H B c.requires.change c.pair_figures-size.result.1 c.pair_figures-size.ensures.hash in
     let parts = pair_parts g.M.Mix.mixed t kept u G c.in_ok-first.first c.in-Ok.second made c.changed_size-size.result c.toggled_pairs-hash.result (changed_deep g.M.Mix.mixed t kept c.args.change c.args.old c.requires.fits c.args.run.now) sized hashed in
@@ -93,7 +98,7 @@ intern-requires-clause-held g c =
     let u = c.change_pair_position-2.new.context in
     let kept = c.tables-tables.ensures.kept in
     let made = both g.M.Mix.mixed t kept c.change_pair_position.new.context u c.args.change c.args.old c.requires.fits B c.in_ok-first.first c.in-Ok.second
-    c.in_ok-first.ensures.slices c.in_ok-first.ensures.moved c.in_ok-first.ensures.stay c.in-Ok.ensures.slices c.in-Ok.ensures.moved c.in-Ok.ensures.stay in
+    c.in_ok-first.ensures.slices c.in_ok-first.ensures.held.moved c.in_ok-first.ensures.held.stay c.in-Ok.ensures.slices c.in-Ok.ensures.held.moved c.in-Ok.ensures.held.stay in
     let some : 1 ≤ set.len G = let not = c.if-size-eq0.false in omega arith in
     let hashed = c.toggled_pairs-hash.ensures ∙ hash_is g.M.Mix.mixed 2 (grows c.args.change) H B c.requires.change c.pair_figures-size.result.1 c.pair_figures-size.ensures.hash in
     let parts = pair_parts g.M.Mix.mixed t kept u G c.in_ok-first.first c.in-Ok.second made c.changed_size-size.result c.toggled_pairs-hash.result (changed_deep g.M.Mix.mixed t kept c.args.change c.args.old c.requires.fits c.args.run.now) sized hashed in
@@ -110,7 +115,7 @@ returns-in_err-held-clause-kept g c =
     let u = c.change_pair_position-2.new.context in
     let kept = c.tables-tables.ensures.kept in
     let made = both g.M.Mix.mixed t kept c.change_pair_position.new.context u c.args.change c.args.old c.requires.fits B c.in_ok-first.first c.in-Ok.second
-    c.in_ok-first.ensures.slices c.in_ok-first.ensures.moved c.in_ok-first.ensures.stay c.in-Ok.ensures.slices c.in-Ok.ensures.moved c.in-Ok.ensures.stay in
+    c.in_ok-first.ensures.slices c.in_ok-first.ensures.held.moved c.in_ok-first.ensures.held.stay c.in-Ok.ensures.slices c.in-Ok.ensures.held.moved c.in-Ok.ensures.held.stay in
     let some : 1 ≤ set.len G = let not = c.if-size-eq0.false in omega arith in
     let hashed = c.toggled_pairs-hash.ensures ∙ hash_is g.M.Mix.mixed 2 (grows c.args.change) H B c.requires.change c.pair_figures-size.result.1 c.pair_figures-size.ensures.hash in
     let parts = pair_parts g.M.Mix.mixed t kept u G c.in_ok-first.first c.in-Ok.second made c.changed_size-size.result c.toggled_pairs-hash.result (changed_deep g.M.Mix.mixed t kept c.args.change c.args.old c.requires.fits c.args.run.now) sized hashed in
@@ -127,15 +132,15 @@ returns-clause-stands g c =
     let u = c.change_pair_position-2.new.context in
     let kept = c.tables-tables.ensures.kept in
     let made = both g.M.Mix.mixed t kept c.change_pair_position.new.context u c.args.change c.args.old c.requires.fits B c.in_ok-first.first c.in-Ok.second
-    c.in_ok-first.ensures.slices c.in_ok-first.ensures.moved c.in_ok-first.ensures.stay c.in-Ok.ensures.slices c.in-Ok.ensures.moved c.in-Ok.ensures.stay in
+    c.in_ok-first.ensures.slices c.in_ok-first.ensures.held.moved c.in_ok-first.ensures.held.stay c.in-Ok.ensures.slices c.in-Ok.ensures.held.moved c.in-Ok.ensures.held.stay in
     let some : 1 ≤ set.len G = let not = c.if-size-eq0.false in omega arith in
     let hashed = c.toggled_pairs-hash.ensures ∙ hash_is g.M.Mix.mixed 2 (grows c.args.change) H B c.requires.change c.pair_figures-size.result.1 c.pair_figures-size.ensures.hash in
     let parts = pair_parts g.M.Mix.mixed t kept u G c.in_ok-first.first c.in-Ok.second made c.changed_size-size.result c.toggled_pairs-hash.result (changed_deep g.M.Mix.mixed t kept c.args.change c.args.old c.requires.fits c.args.run.now) sized hashed in
     let is = c.pair_node-node.ensures (set_of u 1) G some parts in
     edge_stands g.M.Mix.mixed t kept u G c.in_ok-first.first c.in-Ok.second made c.pair_node-node.result is c.intern.new.self c.in_ok-held.held c.in_ok-held.ensures.there c.in_ok-held.ensures.stay some c.into_edge.result c.into_edge.ensures
 
-pub returns-clause-moved : goal.returns-clause-moved
-returns-clause-moved g c =
+pub returns-clause-held : goal.returns-clause-held
+returns-clause-held g c =
     let t = c.args.context.now in
     let H = set_at t 2 c.args.old in
     let B = set_of_entries trip_rest c.args.run.now in
@@ -144,9 +149,13 @@ returns-clause-moved g c =
     let u = c.change_pair_position-2.new.context in
     let kept = c.tables-tables.ensures.kept in
     let made = both g.M.Mix.mixed t kept c.change_pair_position.new.context u c.args.change c.args.old c.requires.fits B c.in_ok-first.first c.in-Ok.second
-    c.in_ok-first.ensures.slices c.in_ok-first.ensures.moved c.in_ok-first.ensures.stay c.in-Ok.ensures.slices c.in-Ok.ensures.moved c.in-Ok.ensures.stay in
+    c.in_ok-first.ensures.slices c.in_ok-first.ensures.held.moved c.in_ok-first.ensures.held.stay c.in-Ok.ensures.slices c.in-Ok.ensures.held.moved c.in-Ok.ensures.held.stay in
     let some : 1 ≤ set.len G = let not = c.if-size-eq0.false in omega arith in
     let hashed = c.toggled_pairs-hash.ensures ∙ hash_is g.M.Mix.mixed 2 (grows c.args.change) H B c.requires.change c.pair_figures-size.result.1 c.pair_figures-size.ensures.hash in
     let parts = pair_parts g.M.Mix.mixed t kept u G c.in_ok-first.first c.in-Ok.second made c.changed_size-size.result c.toggled_pairs-hash.result (changed_deep g.M.Mix.mixed t kept c.args.change c.args.old c.requires.fits c.args.run.now) sized hashed in
     let is = c.pair_node-node.ensures (set_of u 1) G some parts in
-    edge_moved g.M.Mix.mixed t kept u G c.in_ok-first.first c.in-Ok.second made c.pair_node-node.result is c.intern.new.self c.in_ok-held.held c.in_ok-held.ensures.there c.in_ok-held.ensures.stay c.in_ok-held.ensures.moved c.into_edge.result c.into_edge.ensures
+    record {
+      moved = edge_moved g.M.Mix.mixed t kept u G c.in_ok-first.first c.in-Ok.second made c.pair_node-node.result is c.intern.new.self c.in_ok-held.held c.in_ok-held.ensures.there c.in_ok-held.ensures.stay c.in_ok-held.ensures.moved c.into_edge.result c.into_edge.ensures;
+      counts = λ d r. omega (arith, c.in_ok-first.ensures.held.counts d r, c.in-Ok.ensures.held.counts d r, c.in_ok-held.ensures.counts d r, at_most 2 (one_at c.in_ok-held.held) 1 (one_at_most c.in_ok-held.held) d r, c.requires.some);
+      stay = rows_stay_on t u c.intern.new.self (rows_stay_on t c.change_pair_position.new.context u c.in_ok-first.ensures.held.stay c.in-Ok.ensures.held.stay) c.in_ok-held.ensures.stay;
+    }

@@ -1,4 +1,4 @@
-use Rattle.std.proofs.Common.{◌≡◌, ℕ, ◌^◌, ◌+◌, ◌≤◌, ◌<◌, ◌≢◌, [], ◌∷◌, ◌++◌, List, length, take, drop, sym, ◌∙◌, ap, subst, arith, length-append, Some}
+use Rattle.std.proofs.Common.{rules, ◌≡◌, ℕ, ◌^◌, ◌+◌, ◌≤◌, ◌<◌, ◌≢◌, [], ◌∷◌, ◌++◌, List, length, take, drop, sym, ◌∙◌, ap, subst, arith, length-append, Some}
 use Rattle.std.specs.List.{All, slice_index_or, slice_get}
 use Rattle.std.specs.FinSet as set
 use Rattle.trie_depth.specs.declared.id.Id.{Id}
@@ -62,11 +62,11 @@ loop-first-preserved g c =
     let more : length (so_far.done ++ run) ≡ length so_far.done + length run = length-append so_far.done run in (
       step key_of trip_rest g.M.Mix.mixed c.args.change 2 c.args.context.now c.args.old.now c.args.triples.now c.tables.ensures.kept c.requires.fits c.requires.order
           c.loop-first.context c.loop-first.rest.now c.loop-first.changes.items so_far c.in-Some.first.now.0 run c.split_at.result.1.now turn
-          c.change_pairs.new.context c.in_ok-edge.edge c.in_ok-edge.ensures.moved c.in_ok-edge.ensures.stay
+          c.change_pairs.new.context c.in_ok-edge.edge c.in_ok-edge.ensures.held.moved c.in_ok-edge.ensures.held.stay
           (subst (λ o. StandsAt c.change_pairs.new.context 2 (after (grows c.args.change) (set_at c.loop-first.context 2 o) (set_of_entries trip_rest run)) c.in_ok-edge.edge) c.get.ensures c.in_ok-edge.ensures.stands)
           c.push_reserved.new.self.items
           (c.push_reserved.ensures.items ∙ ap (λ cs. cs ++ (c.in-Some.first.now.0, c.in_ok-edge.edge) ∷ []) c.in_ok-reserve.ensures.items),
-      (λ d r. omega (arith, c.loop-first.invariant.1 d r, c.in_ok-edge.ensures.counts d r, more, turn.some)),
+      (λ d r. omega (arith, c.loop-first.invariant.1 d r, c.in_ok-edge.ensures.held.counts d r, more, turn.some)),
       omega (arith, c.loop-first.invariant.2, c.change_pairs.ensures.ticks, more, turn.some),
     )
 
@@ -79,9 +79,13 @@ change_pairs-requires-clause-size g c =
     (run_small key_of trip_rest g.M.Mix.mixed c.args.change 2 c.args.context.now c.args.old.now c.args.triples.now c.tables.ensures.kept c.requires.fits c.requires.order
     c.loop-first.context c.loop-first.rest.now c.loop-first.changes.items c.loop-first.invariant.0 c.in-Some.first.now.0 run c.split_at.result.1.now turn c.requires.size)
 
-pub returns-in_err-edge-clause-counts : goal.returns-in_err-edge-clause-counts
-returns-in_err-edge-clause-counts g c d r =
+pub returns-in_err-edge-clause-held : goal.returns-in_err-edge-clause-held
+returns-in_err-edge-clause-held g c =
     let so_far = c.loop-first.invariant.0 in
     let whole : length c.args.triples.now ≡ length so_far.done + length c.loop-first.rest.now = ap length so_far.whole ∙ length-append so_far.done c.loop-first.rest.now in
-    let same : count_of (row_of c.change_pairs.new.context d r) ≡ count_of (row_of c.loop-first.context d r) = ap (λ (t : Tables). count_of (row_of t d r)) c.in_err-edge.ensures.kept in
-    omega (arith, c.loop-first.invariant.1 d r, whole, same)
+    let same : (d r : ℕ) → count_of (row_of c.change_pairs.new.context d r) ≡ count_of (row_of c.loop-first.context d r) = λ d r. ap (λ (t : Tables). count_of (row_of t d r)) c.in_err-edge.ensures.kept in
+    record {
+      moved = search rules;
+      counts = λ d r. omega (arith, c.loop-first.invariant.1 d r, whole, same d r);
+      stay = search rules;
+    }

@@ -2,7 +2,7 @@ use Rattle.std.proofs.Common.{Some, IsSome, sym, ap, subst, ◌∙◌}
 use Rattle.hash_index.proofs.Slots.{numbered-remove}
 use Rattle.std.specs.FinMap as map
 use Rattle.term_dict.specs.Dict.{Terms}
-use Rattle.term_dict.proofs.DictLemmas.{at_slot, listed, IsSound-remove}
+use Rattle.term_dict.proofs.DictLemmas.{at_slot, listed, IsDictionary-remove}
 use Rattle.term_dict.proofs.dict.Dict.remove.Goals as goal
 
 pub take_out-requires : goal.take_out-requires
@@ -14,7 +14,7 @@ remove-requires c =
 
 pub invariant_of-self : goal.invariant_of-self
 invariant_of-self c =
-    IsSound-remove c.self.inside.places.slots c.take_out.new.self.slots c.self.inside.index c.remove.new.self c.args.id.0 c.self.invariant c.take_out.ensures.written c.remove.ensures c.take_out.ensures.len
+    IsDictionary-remove c.self.inside.places.slots c.take_out.new.self.slots c.self.inside.index c.remove.new.self c.args.id.0 c.self.invariant c.take_out.ensures.written c.remove.ensures c.take_out.ensures.len
 
 pub returns : goal.returns
 returns c =

@@ -10,6 +10,7 @@ use Rattle.rdf_model.specs.Graph.{Graph}
 use Rattle.graph_shape.specs.GraphShapes.{terms_of}
 use Rattle.query_grammar.specs.Meaning.{Query, Pattern, Place, LabelAt, Const}
 use Rattle.bag_model.specs.Solutions.{assignments, row_of}
+use Rattle.solution_model.specs.Members.{members}
 use Rattle.solution_model.specs.Ordered.{ordered_by}
 
 -- the values of the columns; none for a column without label
@@ -37,7 +38,7 @@ is_solution G (p ∷ ps) a = has_image G a p && is_solution G ps a
 
 -- the terms of a graph, in the order of the bytes of their N-Triples texts
 unfoldable pub ordered_terms : Graph → List Term
-ordered_terms G = ordered_by canon (set.items (terms_of G))
+ordered_terms G = ordered_by canon (members (terms_of G))
 
 -- all solutions: the terms of the graph are gone through label by label, in order
 abbrev pub solutions : Query → Graph → List (List Term)

@@ -11,3 +11,4 @@ pub mod ReadLaws
 pub mod Labels
 pub mod UniverseLaws
 pub mod AnswerLaws
+pub mod Laws

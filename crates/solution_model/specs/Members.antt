@@ -1,5 +1,5 @@
 -- The members of a finite set as a list.
-use Rattle.std.specs.Prelude.{◌≡◌, ◌&&◌, T, List, [], ◌∷◌, refl, is_some, cond, Option, Some, None, Bool, true, false}
+use Rattle.std.specs.Prelude.{◌≡◌, T, List, [], ◌∷◌, refl, is_some, cond, Option, Some, None, Bool, true, false}
 use Rattle.std.specs.Prelude.{map as each}
 use Rattle.std.proofs.Common.{sym, ◌∙◌, ap}
 use Rattle.std.proofs.lemmas.Map.Keys.{IsDistinct-from_sorted}

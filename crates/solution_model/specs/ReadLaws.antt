@@ -1,10 +1,8 @@
 -- Rows over elements that stand one to one for others are, read, the rows over those.
 use Rattle.std.specs.Prelude.{◌≡◌, ℕ, zero, suc, ◌&&◌, ◌||◌, Bool, true, false, not, cond, List, [], ◌∷◌, ◌++◌, map, refl, Option, None, Some}
-use Rattle.std.proofs.Common.{sym, ◌∙◌, ap, subst, arith}
+use Rattle.std.proofs.Common.{sym, ◌∙◌, ap, subst}
 use Rattle.std.proofs.lemmas.Cmp.{lists_total}
-use Rattle.std.proofs.lemmas.Map.Keys.{IsDistinct-head, IsDistinct-tail, IsDistinct-cons}
 use Rattle.std.specs.List.{AllByRecursion, IsDistinct, cons_option, filter, flat_map, list_all, list_any}
-use Rattle.std.specs.List.Sorted.{IsPermutation}
 use Rattle.std.specs.Option.{option_map}
 use Rattle.std.specs.Ordering.{eq_by_cmp}
 use Rattle.std.specs.declared.cmp.Ordering.{Ordering}
@@ -14,7 +12,7 @@ use Rattle.hypertrie_model.specs.Sets.{has}
 use Rattle.hypertrie_model.specs.SetLaws.{and_both, same_test, tied-itself, tied-is}
 use Rattle.hypertrie_model.specs.Slices.{at}
 use Rattle.set_image.specs.OneToOneLaws.{contains-image}
-use Rattle.tuple_image.specs.TupleImages.{tuple_image, IsOver, IsOneToOneWhere}
+use Rattle.tuple_image.specs.TupleImages.{IsOneToOneWhere}
 use Rattle.tuple_image.specs.TupleLaws.{read_tuple}
 use Rattle.bag_model.specs.Answers.{same_row, first_places, chosen_rows}
 use Rattle.bag_model.specs.AnswerLaws.{exact_rows}
@@ -230,11 +228,12 @@ module _ {A B : Type 0} {R : A → A → Ordering} {P : B → B → Ordering} (o
   apart-read : (x : A) (v : List A) → known x ≡ true → list_all known v ≡ true → AllByRecursion (λ y. eq_by_cmp R x y ≡ false) v → AllByRecursion (λ y. eq_by_cmp P (f x) y ≡ false) (map f v)
   apart-read x [] kx all apart = tt
   apart-read x (y ∷ v) kx all apart =
-      let two = and_both (known y) (list_all known v) all in
-      (same_test (eq_by_cmp P (f x) (f y)) (eq_by_cmp R x y)
-      (λ e. ap (eq_by_cmp R x) (sym (one x y kx two.0 (tied-is exact_p (f x) (f y) e))) ∙ tied-itself o x)
-      (λ e. ap (λ z. eq_by_cmp P (f x) (f z)) (sym (tied-is exact x y e)) ∙ tied-itself op (f x)) ∙ apart.0,
-      apart-read x v kx two.1 apart.1)
+      let two = and_both (known y) (list_all known v) all in (
+        same_test (eq_by_cmp P (f x) (f y)) (eq_by_cmp R x y)
+            (λ e. ap (eq_by_cmp R x) (sym (one x y kx two.0 (tied-is exact_p (f x) (f y) e))) ∙ tied-itself o x)
+            (λ e. ap (λ z. eq_by_cmp P (f x) (f z)) (sym (tied-is exact x y e)) ∙ tied-itself op (f x)) ∙ apart.0,
+        apart-read x v kx two.1 apart.1,
+      )
 
   distinct-read : (v : List A) → list_all known v ≡ true → IsDistinct (eq_by_cmp R) v → IsDistinct (eq_by_cmp P) (map f v)
   unfolding IsDistinct
@@ -255,11 +254,12 @@ module _ {A B : Type 0} {R : A → A → Ordering} {P : B → B → Ordering} (o
   whole-read u [] [] ku are whole = tt
   whole-read u [] (s ∷ ss) ku are whole = absurd are
   whole-read u (r ∷ rs) [] ku are whole = absurd are
-  whole-read u (r ∷ rs) (s ∷ ss) ku are whole =
-      ((λ t e.
-      let v = read_tuple o exact op exact_p f r.tuples t (ap (λ T. has T t) are.0.tuples ∙ e) in
-      subst (AllByRecursion (λ y. list_any (eq_by_cmp P y) (map f u) ≡ true)) v.is (all-read u v.member ku (are.0.over v.member v.there) (whole.0 v.member v.there))),
-      whole-read u rs ss ku are.1 whole.1)
+  whole-read u (r ∷ rs) (s ∷ ss) ku are whole = (
+    (λ t e.
+        let v = read_tuple o exact op exact_p f r.tuples t (ap (λ T. has T t) are.0.tuples ∙ e) in
+        subst (AllByRecursion (λ y. list_any (eq_by_cmp P y) (map f u) ≡ true)) v.is (all-read u v.member ku (are.0.over v.member v.there) (whole.0 v.member v.there))),
+    whole-read u rs ss ku are.1 whole.1,
+  )
 
   pub universe-read : (u : List A) (rs : List (Rest R)) (ss : List (Rest P)) → list_all known u ≡ true → AreRead R P f known rs ss → IsUniverse R u rs → IsUniverse P (map f u) ss
   universe-read u rs ss ku are is = record { distinct = distinct-read u ku is.distinct; whole = whole-read u rs ss ku are is.whole }

@@ -1,11 +1,10 @@
 -- The image of a pattern is in the graph exactly where that of its labels is in the slice at its constants.
-use Rattle.std.specs.Prelude.{◌≡◌, ℕ, zero, suc, ◌<◌, ◌≤◌, ◌&&◌, Bool, true, cond, List, [], ◌∷◌, ◌++◌, length, map, refl, Option, None, Some}
+use Rattle.std.specs.Prelude.{◌≡◌, ℕ, zero, suc, ◌<◌, ◌≤◌, ◌&&◌, Bool, cond, List, [], ◌∷◌, ◌++◌, length, map, refl, Some}
 use Rattle.std.proofs.Common.{sym, ◌∙◌, ap, subst, arith}
 use Rattle.std.proofs.lemmas.Cmp.{lists_total}
 use Rattle.std.proofs.lemmas.List.{append-nil}
 use Rattle.std.proofs.lemmas.List.Elements.{filter_map-append}
 use Rattle.std.specs.List.{AllByRecursion, cons_option, filter, flat_map, insert}
-use Rattle.std.specs.Cmp.Lexicographic.{slice_cmp}
 use Rattle.std.specs.FinSet.{slice_cmp-IsAntisymmetric}
 use Rattle.std.specs.FinSet as set
 use Rattle.hypertrie_model.specs.Sets.{TupleSet, has}
@@ -18,7 +17,7 @@ use Rattle.graph_shape.specs.GraphShapes.{tuple_of, tuples_of}
 use Rattle.query_grammar.specs.Meaning.{Query, Pattern, Place, LabelAt, Const}
 use Rattle.bag_model.specs.Solutions as bag
 use Rattle.bag_model.specs.Solutions.{image, assignments, row_of}
-use Rattle.solution_model.specs.Rows.{term_under, has_triple, has_image, is_solution, ordered_terms, solutions, column_labels, all_rows}
+use Rattle.solution_model.specs.Rows.{term_under, has_triple, has_image, is_solution, ordered_terms, column_labels, all_rows}
 use Rattle.solution_model.specs.Rests.{place_labels, pattern_labels, slice_by, rest_of, AreBelow}
 
 -- the triple is there exactly where its tuple is
@@ -91,12 +90,12 @@ fixes_constants G p a all =
     let H = tuples_of G in
     let parts : image a (ls ++ (lp ++ lo)) ≡ image a ls ++ (image a lp ++ image a lo) = filter_map-append (λ l. at l a) ls (lp ++ lo) ∙ ap (λ t. image a ls ++ t) (filter_map-append (λ l. at l a) lp lo) in
     let last : has (slice_by p.o 2 H) (s.term ∷ v.term ∷ image a lo) ≡ has H (s.term ∷ v.term ∷ o.term ∷ []) =
-        ap (λ t. has (slice_by p.o 2 H) (s.term ∷ v.term ∷ t)) (sym (append-nil (image a lo))) ∙ at_place H a p.o 2 (s.term ∷ v.term ∷ []) [] o.term refl o.is in
+    ap (λ t. has (slice_by p.o 2 H) (s.term ∷ v.term ∷ t)) (sym (append-nil (image a lo))) ∙ at_place H a p.o 2 (s.term ∷ v.term ∷ []) [] o.term refl o.is in
     let slices : has (rest_of G p).tuples (image a (ls ++ (lp ++ lo))) ≡ has H (s.term ∷ v.term ∷ o.term ∷ []) =
-        ap (has (rest_of G p).tuples) parts
-        ∙ at_place (slice_by p.p 1 (slice_by p.o 2 H)) a p.s 0 [] (image a lp ++ image a lo) s.term refl s.is
-        ∙ at_place (slice_by p.o 2 H) a p.p 1 (s.term ∷ []) (image a lo) v.term refl v.is
-        ∙ last in
+    ap (has (rest_of G p).tuples) parts
+    ∙ at_place (slice_by p.p 1 (slice_by p.o 2 H)) a p.s 0 [] (image a lp ++ image a lo) s.term refl s.is
+    ∙ at_place (slice_by p.o 2 H) a p.p 1 (s.term ∷ []) (image a lo) v.term refl v.is
+    ∙ last in
     let image_is : has_image G a p ≡ set.contains G (record { s = s.term; p = v.term; o = o.term }) = (λ j. has_triple G (s.is j) (v.is j) (o.is j)) in
     image_is ∙ sym (slices ∙ contains-tuple G (record { s = s.term; p = v.term; o = o.term }))
 

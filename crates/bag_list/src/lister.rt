@@ -71,6 +71,7 @@ impl<O: Operand> Lister<O> {
         ensures row { IfSome result (λ _. GoesOn self.old self.new) }
         ensures none { IsNone result ↔ MayGive self.old [] }
         ensures stays { IsNone result → MayGive self.new [] }
+        ensures ended { IsNone result → self.new.present ≡ None }
         ensures columns { self.new.columns ≡ self.old.columns }
     {
         self.given = false;

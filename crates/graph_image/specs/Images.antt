@@ -1,4 +1,4 @@
--- Triples of Ids read as triples of terms, and the terms of a graph (RDF 1.1 Concepts, section 3.1).
+-- Triples of Ids read as triples of terms.
 use Rattle.std.specs.Prelude.{◌≡◌, ℕ, not, true, Bool, List, [], ◌∷◌, Some, IsSome, unwrap_or, slice_index}
 use Rattle.std.specs.List.{list_any}
 use Rattle.std.specs.Ordering.{eq_by_cmp, nat_cmp}
@@ -8,6 +8,7 @@ use Rattle.hypertrie_model.specs.IdSets.{IdSet}
 use Rattle.hypertrie_model.specs.Sets.{has}
 use Rattle.rdf_model.specs.Terms.{Term, Iri, Triple}
 use Rattle.rdf_model.specs.Graph.{Graph, term_cmp, triple_cmp}
+unfoldable pub use Rattle.rdf_model.specs.GraphTerms.{terms_of}
 use Rattle.set_image.specs.Images.{image}
 use Rattle.term_dict.specs.Dict.{Terms}
 
@@ -36,10 +37,6 @@ pub record IsKnown (terms : Terms) (t : List ℕ) : Type 0 where
 -- so is each tuple of the set
 abbrev pub AreKnown : Terms → IdSet → Type 0
 AreKnown terms H = (t : List ℕ) → has H t ≡ true → IsKnown terms t
-
--- the terms of the triples of a graph: its subjects, predicates and objects
-unfoldable pub terms_of : Graph → set.FinSet term_cmp
-terms_of G = set.union (image term_cmp (λ t. t.s) G) (set.union (image term_cmp (λ t. t.p) G) (image term_cmp (λ t. t.o) G))
 
 -- the dictionary has exactly these terms
 pub record HasExactly (terms : Terms) (S : set.FinSet term_cmp) : Type 0 where

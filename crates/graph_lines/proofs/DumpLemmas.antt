@@ -19,13 +19,8 @@ use Rattle.set_image.specs.ImageLaws.{image-from_list}
 use Rattle.tuple_image.specs.TupleImages.{IsOver}
 use Rattle.graph_image.specs.Images.{triple_at, graph_of, IsKnown, AreKnown}
 use Rattle.graph_image.specs.ImageLaws.{tuples_total, tuples_exact, graph_of-empty, len-graph_of}
-use Rattle.graph_lines.specs.Walks.{AddsTexts, has_id, line_behind}
-
--- known triples have known Ids
-pub known_ids : (terms : Terms) (H : IdSet) → AreKnown terms H → IsOver (has_id terms) H
-known_ids terms H known t there =
-    let k = known t there in
-    ap (list_all (has_id terms)) k.is ∙ (λ i. k.subject i && (k.predicate i && (k.object i && true)))
+use Rattle.graph_view.specs.Read.{has_id}
+use Rattle.graph_lines.specs.Walks.{AddsTexts, line_behind}
 
 module _ (terms : Terms) where
   line_known : (t : List ℕ) → IsKnown terms t → line_behind terms [] t ≡ dump_line (triple_at terms t)

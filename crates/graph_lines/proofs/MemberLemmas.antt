@@ -1,9 +1,10 @@
 -- The texts of the members of a row.
-use Rattle.std.specs.Prelude.{◌≡◌, ◌≢◌, ℕ, ◌≤◌, ◌&&◌, ◌||◌, Bool, true, false, List, [], ◌∷◌, ◌++◌, length, refl, codes, Option, None, Some, IsSome, IfSome, unwrap_or, option_map}
+use Rattle.std.specs.Prelude.{◌≡◌, ◌≢◌, ℕ, suc, ◌≤◌, ◌&&◌, ◌||◌, Bool, true, false, List, [], ◌∷◌, ◌++◌, length, refl, codes, Option, None, Some, IsSome, IfSome, unwrap_or, option_map, is_some}
 use Rattle.std.specs.Prelude.{map as each}
 use Rattle.std.proofs.Common.{sym, ◌∙◌, ap, subst, arith, append_assoc, append-nil}
 use Rattle.std.proofs.lemmas.Cmp.{nat_cmp_total as total, lists_total}
 use Rattle.std.specs.Cmp.Lexicographic.{slice_cmp}
+use Rattle.std.specs.Coded.{le_prop}
 use Rattle.std.specs.FinMap as map
 use Rattle.std.specs.FinMap.{FinMap, nat_cmp-IsAntisymmetric as exact}
 use Rattle.std.specs.FinSet.{slice_cmp-IsAntisymmetric}
@@ -21,6 +22,7 @@ use Rattle.rdf_model.specs.Texts.{tsv}
 use Rattle.term_dict.specs.Dict.{Terms}
 use Rattle.edge_map.specs.declared.edge.Edge.{Edge}
 use Rattle.edge_map.specs.declared.edge.Edge.TheVariants.{Key, Node as ToRow}
+use Rattle.edge_map.specs.Edges.{Edges}
 use Rattle.node_table.specs.Table.{Row}
 use Rattle.trie_node.specs.declared.node.Node.{Node}
 use Rattle.trie_node.specs.declared.node.Node.TheVariants.{Single, Full}
@@ -29,9 +31,12 @@ use Rattle.trie_context.specs.declared.tables.Tables.{Tables}
 use Rattle.trie_context.specs.Rows.{row_of, node_of, row_set, node_set, set_of, LeadsToRow}
 use Rattle.trie_context.specs.RowLaws.{row_there}
 use Rattle.trie_context.specs.Kept.{IsNode, AreKept}
+use Rattle.trie_context.specs.NodeLaws.{edges_there}
 use Rattle.tuple_image.specs.TupleImages.{IsOver}
 use Rattle.graph_shape.specs.GraphShapes.{member_text}
 use Rattle.graph_image.specs.Images.{term_at}
+use Rattle.graph_view.specs.Read.{AreRead}
+use Rattle.graph_view.specs.ReadLaws.{tests_prop, kept_known}
 use Rattle.graph_lines.specs.Walks.{AddsTexts, member_behind}
 use Rattle.graph_lines.proofs.MapLemmas.{under_known}
 
@@ -99,9 +104,8 @@ row_node t d r there n is =
     ap (option_map (λ (row : Row Node). row.node)) row.1 ∙ ap Some same
 
 module _ (mixed : ℕ → ℕ → ℕ → ℕ → ℕ) (t : Tables) (kept : AreKept mixed t) where
-  -- a row of depth one has a map of keys
-  pub keys_there : (r : ℕ) → IsSome (row_of t 1 r) → (n : Node) → IfSome (row_of t 1 r) (λ row. row.node ≡ n) → map_at n 0 ≡ None → ⊥
-  keys_there r there n is none =
+  keys_kept : (r : ℕ) → IsSome (row_of t 1 r) → (n : Node) → IfSome (row_of t 1 r) (λ row. row.node ≡ n) → map_at n 0 ≡ None → ⊥
+  keys_kept r there n is none =
       let row = row_there (row_of t 1 r) there in
       let node : row.0.node ≡ n = let h : IfSome (Some row.0) (λ row. row.node ≡ n) = subst (λ o. IfSome o (λ row. row.node ≡ n)) row.1 is in h in
       by n (subst (IsNode mixed 1 (set_of t 0)) node ((kept 0).formed r row.0 row.1)) none where
@@ -109,14 +113,30 @@ module _ (mixed : ℕ → ℕ → ℕ → ℕ → ℕ) (t : Tables) (kept : AreK
         by (Single p) f e = f
         by (Full s h a b c) f e = cc
 
-  -- and two or more keys
-  large : (r : ℕ) → IsSome (row_of t 1 r) → 2 ≤ set.len (set_of t 1 r)
-  large r there =
+  large_kept : (r : ℕ) → IsSome (row_of t 1 r) → 2 ≤ set.len (set_of t 1 r)
+  large_kept r there =
       let row = row_there (row_of t 1 r) there in
       subst (λ o. 2 ≤ set.len (row_set (node_set 1 (set_of t 0)) o)) (sym row.1) (by row.0.node ((kept 0).formed r row.0 row.1)) where
         by : (n : Node) → IsNode mixed 1 (set_of t 0) n → 2 ≤ set.len (key_set_of n)
         by (Single p) f = absurd f
         by (Full s h a b c) f = f.told.large
+
+leads_prop : (t : Tables) (d : ℕ) (e : Edge) → IsProp (LeadsToRow t d e)
+leads_prop t d (Key x) = hlevel
+leads_prop t d (ToRow r) = tests_prop (is_some (row_of t d r)) true
+
+module _ (t : Tables) (terms : Terms) (read : ∥ AreRead t terms ∥₁) where
+  -- a row of depth one has a map of keys
+  pub keys_there : (r : ℕ) → IsSome (row_of t 1 r) → (n : Node) → IfSome (row_of t 1 r) (λ row. row.node ≡ n) → map_at n 0 ≡ None → ⊥
+  keys_there r there n is none = let never : IsProp ⊥ = hlevel in kept_known t terms read ⊥ never (λ mixed kept. keys_kept mixed t kept r there n is none)
+
+  -- and two or more keys
+  large : (r : ℕ) → IsSome (row_of t 1 r) → 2 ≤ set.len (set_of t 1 r)
+  large r there = kept_known t terms read (2 ≤ set.len (set_of t 1 r)) le_prop (λ mixed kept. large_kept mixed t kept r there)
+
+  -- an edge of a node leads to a row that is there
+  pub edge_leads : (d q : ℕ) (node : Node) → node_of t (suc d) q ≡ Some node → (pos : ℕ) (m : Edges) → map_at node pos ≡ Some m → (k : ℕ) (e : Edge) → map.get m k ≡ Some e → LeadsToRow t d e
+  edge_leads d q node at pos m is k e there = kept_known t terms read (LeadsToRow t d e) (leads_prop t d e) (λ mixed kept. edges_there mixed t kept d q node at pos m is k e there)
 
   -- an edge that is there stands for some key
   pub edge_some : (e : Edge) → LeadsToRow t 1 e → edge_set (set_of t 1) e ≢ empty nat_cmp

@@ -35,15 +35,16 @@ use Rattle.set_image.specs.ImageLaws.{IsValue, is_image, image-image, image-same
 use Rattle.tuple_image.specs.TupleImages.{tuple_image, IsOver, IsOneToOneWhere, ReadsShape}
 use Rattle.tuple_image.specs.TupleLaws.{one_to_one}
 use Rattle.tuple_image.specs.RowImages.{over-shape, reads_shape}
-use Rattle.graph_shape.specs.Sorting.{AreMembersOf, in_order, sorted_texts}
-use Rattle.graph_shape.specs.MemberLaws.{members_in_order, members_image}
+use Rattle.rdf_model.specs.Sorting.{AreMembersOf, in_order, sorted_texts}
+use Rattle.rdf_model.specs.MemberLaws.{members_in_order, members_image}
 use Rattle.graph_shape.specs.GraphShapes.{GraphRow, tuple_of, tuples_of, member_text, row_line, has_line, line_rows, shape_lines}
 use Rattle.graph_image.specs.Images.{term_at, triple_at, graph_of, AreKnown}
 use Rattle.graph_image.specs.ImageLaws.{get_is, tuples_total, tuples_exact}
-use Rattle.graph_lines.specs.Walks.{AddsTexts, key_set, has_id, member_behind, row_read, row_text}
+use Rattle.graph_view.specs.Read.{has_id}
+use Rattle.graph_view.specs.ReadLaws.{known_ids}
+use Rattle.graph_lines.specs.Walks.{AddsTexts, key_set, member_behind, row_read, row_text}
 use Rattle.graph_lines.proofs.WalkLemmas.{members_under, members_union}
 use Rattle.graph_lines.proofs.MemberLemmas.{added_as}
-use Rattle.graph_lines.proofs.DumpLemmas.{known_ids}
 
 -- no two Ids of the dictionary have one term
 pub lone_ids : (terms : Terms) → IsOneToOne terms → IsOneToOneWhere (has_id terms) (term_at terms)

@@ -23,7 +23,7 @@ use Rattle.hypertrie_model.specs.UnionSizes.{prefixed, has-prefixed, has-prefixe
 use Rattle.set_image.specs.Images.{image}
 use Rattle.set_image.specs.ImageLaws.{image-from_list}
 use Rattle.rdf_model.specs.Terms.{Text}
-use Rattle.graph_shape.specs.Sorting.{AreMembersOf}
+use Rattle.rdf_model.specs.Sorting.{AreMembersOf}
 use Rattle.graph_lines.specs.Walks.{AddsTexts}
 
 -- whether the first key of the tuple is below

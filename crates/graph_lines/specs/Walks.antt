@@ -1,12 +1,11 @@
 -- Tuples of Ids as texts, and the texts of a set's members in a list.
-use Rattle.std.specs.Prelude.{◌≡◌, ℕ, Bool, is_some, List, [], ◌∷◌, ◌++◌, map, codes, Option, None, Some}
+use Rattle.std.specs.Prelude.{◌≡◌, ℕ, List, [], ◌∷◌, ◌++◌, map, codes}
 use Rattle.std.specs.Ordering.{nat_cmp}
 use Rattle.std.specs.declared.cmp.Ordering.{Ordering}
-use Rattle.std.specs.FinMap as finite
 use Rattle.std.specs.FinMap.{FinMap}
 use Rattle.std.specs.FinSet as set
 use Rattle.hypertrie_model.specs.IdSets.{IdSet}
-use Rattle.hypertrie_model.specs.Sets.{empty, single}
+use Rattle.hypertrie_model.specs.Sets.{single}
 use Rattle.hypertrie_model.specs.Unions.{union_over}
 use Rattle.rdf_model.specs.Terms.{Text}
 use Rattle.rdf_model.specs.Texts.{canon}
@@ -16,7 +15,7 @@ use Rattle.trie_context.specs.declared.tables.Tables.{Tables}
 use Rattle.trie_context.specs.Rows.{row_of, set_of}
 use Rattle.trie_context.specs.Holds.{count_of}
 use Rattle.tuple_image.specs.TupleImages.{tuple_image}
-use Rattle.graph_shape.specs.Sorting.{AreMembersOf}
+use Rattle.rdf_model.specs.Sorting.{AreMembersOf}
 use Rattle.graph_shape.specs.GraphShapes.{GraphRow, member_text, row_line}
 use Rattle.graph_image.specs.Images.{term_at}
 
@@ -27,10 +26,6 @@ AddsTexts {K} text H old new = (members : List K) × AreMembersOf H members × (
 -- the keys of a finite map, as tuples of one number
 abbrev pub key_set : {X : Type 0} → FinMap nat_cmp X → IdSet
 key_set m = union_over m (λ _. single nat_cmp [])
-
--- whether the dictionary has a term for the Id
-abbrev pub has_id : Terms → ℕ → Bool
-has_id terms id = is_some (finite.get terms id)
 
 -- the text of each Id's term, with a space behind it
 abbrev pub words : Terms → List ℕ → Text
@@ -53,8 +48,3 @@ row_read terms t d r = record { depth = d; tuples = tuple_image term_cmp (term_a
 abbrev pub row_text : Terms → Tables → ℕ → List ℕ → Text
 row_text terms t d [] = []
 row_text terms t d (r ∷ rest) = row_line (row_read terms t d r)
-
--- the set of an operand, and no tuple where there is none
-abbrev pub set_in : {O : Type 0} → (O → IdSet) → Option O → IdSet
-set_in tuples None = empty nat_cmp
-set_in tuples (Some o) = tuples o

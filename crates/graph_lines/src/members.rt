@@ -8,16 +8,16 @@ ghost use Rattle.edge_map.specs.declared.edge.Edge.{Edge};
 ghost use Rattle.trie_depth.specs.Tuples.{pair_tuple};
 ghost use Rattle.trie_node.specs.Sets.{edge_set};
 ghost use Rattle.trie_context.specs.Rows.{row_of, set_of, LeadsToRow};
-ghost use Rattle.trie_context.specs.Kept.{AreKept};
 ghost use Rattle.tuple_image.specs.TupleImages.{IsOver};
-ghost use Rattle.graph_lines.specs.Walks.{AddsTexts, has_id, key_set, member_behind};
+ghost use Rattle.graph_view.specs.Read.{has_id};
+ghost use Rattle.graph_lines.specs.Walks.{AddsTexts, key_set, member_behind};
 
 use edge_map::{Edge, EdgeMap};
+use graph_view::TablesView;
 use rdf_term::{TermRef, tsv_text};
 use std::alloc::Global;
 use term_dict::Dict;
 use tn_io::Text;
-use trie_context::Tables;
 use trie_depth::{Id, Memory, Pair};
 use trie_node::Node;
 
@@ -65,12 +65,11 @@ fn add_keys(
 }
 
 /// The keys of a row of depth one.
-fn keys_of(tables: &Tables, row: usize) -> &EdgeMap
-    requires kept { (mixed : ℕ → ℕ → ℕ → ℕ → ℕ) × AreKept mixed tables.now }
-    requires there { IsSome (row_of tables.now 1 row) }
-    ensures { set_of tables.now 1 row ≡ key_set result.now }
+fn keys_of<'a>(all: TablesView<'a>, row: usize) -> &'a EdgeMap
+    requires there { IsSome (row_of all.tables.now 1 row) }
+    ensures { set_of all.entry.tables.now 1 row ≡ key_set result.now }
 {
-    match tables.one.node(row).map(0) {
+    match all.tables.one.node(row).map(0) {
         Some(keys) => keys,
         None => unreachable!(),
     }
@@ -79,46 +78,42 @@ fn keys_of(tables: &Tables, row: usize) -> &EdgeMap
 /// Adds the text of each key that an edge stands for, behind the one that is there.
 fn add_edge(
     alloc: Global,
-    tables: &Tables,
+    all: TablesView<'_>,
     edge: Edge,
     before: &Text,
-    dict: &Dict,
     members: &mut Vec<Text>,
 ) -> Result<(), Memory>
-    requires kept { (mixed : ℕ → ℕ → ℕ → ℕ → ℕ) × AreKept mixed tables.now }
-    requires there { LeadsToRow tables.now 1 edge }
-    requires known { IsOver (has_id dict.now) (edge_set (set_of tables.now 1) edge) }
-    ensures { OnOk result (AddsTexts (member_behind dict.now before.now) (edge_set (set_of tables.now 1) edge) members.old.items members.new.items) }
+    requires there { LeadsToRow all.tables.now 1 edge }
+    requires known { IsOver (has_id all.dict.now) (edge_set (set_of all.tables.now 1) edge) }
+    ensures { OnOk result (AddsTexts (member_behind all.entry.dict.now before.now) (edge_set (set_of all.entry.tables.now 1) edge) members.old.items members.new.items) }
 {
     match edge {
         Edge::Key(key) => {
-            members.push(with_term(alloc, before, dict.term(key))?)?;
+            members.push(with_term(alloc, before, all.dict.term(key))?)?;
             Ok(())
         }
-        Edge::Node(row) => add_keys(alloc, keys_of(tables, row), before, dict, members),
+        Edge::Node(row) => add_keys(alloc, keys_of(all, row), before, all.dict, members),
     }
 }
 
 /// Adds the text of each pair: a key, and one that its edge stands for.
 fn add_pairs(
     alloc: Global,
-    tables: &Tables,
+    all: TablesView<'_>,
     pairs: &EdgeMap,
-    dict: &Dict,
     members: &mut Vec<Text>,
 ) -> Result<(), Memory>
-    requires kept { (mixed : ℕ → ℕ → ℕ → ℕ → ℕ) × AreKept mixed tables.now }
-    requires there { (k : ℕ) (e : Edge) → map.get pairs.now k ≡ Some e → LeadsToRow tables.now 1 e }
-    requires known { IsOver (has_id dict.now) (union_over pairs.now (edge_set (set_of tables.now 1))) }
-    ensures { OnOk result (AddsTexts (member_behind dict.now []) (union_over pairs.now (edge_set (set_of tables.now 1))) members.old.items members.new.items) }
+    requires there { (k : ℕ) (e : Edge) → map.get pairs.now k ≡ Some e → LeadsToRow all.tables.now 1 e }
+    requires known { IsOver (has_id all.dict.now) (union_over pairs.now (edge_set (set_of all.tables.now 1))) }
+    ensures { OnOk result (AddsTexts (member_behind all.entry.dict.now []) (union_over pairs.now (edge_set (set_of all.entry.tables.now 1))) members.old.items members.new.items) }
 {
     let mut from = Id(0);
     loop {
         let Some((key, edge)) = pairs.seek(from) else {
             return Ok(());
         };
-        let word = first_word(alloc, dict.term(key))?;
-        add_edge(alloc, tables, edge, &word, dict, members)?;
+        let word = first_word(alloc, all.dict.term(key))?;
+        add_edge(alloc, all, edge, &word, members)?;
         if key.0 == u32::MAX {
             return Ok(());
         }
@@ -139,44 +134,40 @@ fn pair_text(alloc: Global, pair: Pair, dict: &Dict) -> Result<Text, Memory>
 /// Adds the text of each pair of a row of depth two.
 fn add_row_pairs(
     alloc: Global,
-    tables: &Tables,
+    all: TablesView<'_>,
     row: usize,
-    dict: &Dict,
     members: &mut Vec<Text>,
 ) -> Result<(), Memory>
-    requires kept { (mixed : ℕ → ℕ → ℕ → ℕ → ℕ) × AreKept mixed tables.now }
-    requires there { IsSome (row_of tables.now 2 row) }
-    requires known { IsOver (has_id dict.now) (set_of tables.now 2 row) }
-    ensures { OnOk result (AddsTexts (member_behind dict.now []) (set_of tables.now 2 row) members.old.items members.new.items) }
+    requires there { IsSome (row_of all.tables.now 2 row) }
+    requires known { IsOver (has_id all.dict.now) (set_of all.tables.now 2 row) }
+    ensures { OnOk result (AddsTexts (member_behind all.entry.dict.now []) (set_of all.entry.tables.now 2 row) members.old.items members.new.items) }
 {
-    match tables.two.node(row) {
+    match all.tables.two.node(row) {
         Node::Single(pair) => {
-            members.push(pair_text(alloc, *pair, dict)?)?;
+            members.push(pair_text(alloc, *pair, all.dict)?)?;
             Ok(())
         }
-        Node::Full { first, .. } => add_pairs(alloc, tables, first, dict, members),
+        Node::Full { first, .. } => add_pairs(alloc, all, first, members),
     }
 }
 
 /// Adds the text of each member of a row of depth one or two.
 pub(crate) fn add_members(
     alloc: Global,
-    tables: &Tables,
+    all: TablesView<'_>,
     depth: usize,
     row: usize,
-    dict: &Dict,
     members: &mut Vec<Text>,
 ) -> Result<(), Memory>
-    requires kept { (mixed : ℕ → ℕ → ℕ → ℕ → ℕ) × AreKept mixed tables.now }
     requires low { 1 ≤ depth }
     requires high { depth ≤ 2 }
-    requires there { IsSome (row_of tables.now depth row) }
-    requires known { IsOver (has_id dict.now) (set_of tables.now depth row) }
-    ensures { OnOk result (AddsTexts (member_behind dict.now []) (set_of tables.now depth row) members.old.items members.new.items) }
+    requires there { IsSome (row_of all.tables.now depth row) }
+    requires known { IsOver (has_id all.dict.now) (set_of all.tables.now depth row) }
+    ensures { OnOk result (AddsTexts (member_behind all.entry.dict.now []) (set_of all.entry.tables.now depth row) members.old.items members.new.items) }
 {
     if depth == 1 {
-        let keys = keys_of(tables, row);
-        return add_keys(alloc, keys, &Text::new(alloc), dict, members);
+        let keys = keys_of(all, row);
+        return add_keys(alloc, keys, &Text::new(alloc), all.dict, members);
     }
-    add_row_pairs(alloc, tables, row, dict, members)
+    add_row_pairs(alloc, all, row, members)
 }

@@ -1,18 +1,17 @@
 //! The rows of the tables as lines: how many slices each is, and its members.
 ghost use Rattle.std.specs.Prelude.{◌≡◌, ℕ, ◌<◌, ◌≤◌, ◌++◌, codes, decimal, None, IsSome, IsNone, IfSome, IfOk, OnOk};
-ghost use Rattle.graph_shape.specs.Sorting.{in_order};
+ghost use Rattle.rdf_model.specs.Sorting.{in_order};
 ghost use Rattle.graph_shape.specs.GraphShapes.{depth_name, tabbed, row_line};
 ghost use Rattle.trie_context.specs.Rows.{row_of, rows_at, set_of};
 ghost use Rattle.trie_context.specs.Holds.{count_of};
-ghost use Rattle.trie_context.specs.Kept.{AreKept};
 ghost use Rattle.tuple_image.specs.TupleImages.{IsOver};
-ghost use Rattle.term_dict.specs.Dict.{IsOneToOne};
-ghost use Rattle.graph_lines.specs.Walks.{AddsTexts, has_id, key_set, row_read, row_text};
+ghost use Rattle.graph_view.specs.Read.{has_id};
+ghost use Rattle.graph_lines.specs.Walks.{AddsTexts, key_set, row_read, row_text};
 
 use crate::members::add_members;
+use graph_view::TablesView;
 use itoa::Buffer;
 use std::alloc::Global;
-use term_dict::Dict;
 use tn_io::Text;
 use trie_context::Tables;
 use trie_depth::Memory;
@@ -76,47 +75,36 @@ fn line_of(alloc: Global, depth: usize, count: u128, members: Vec<Text>) -> Resu
 }
 
 /// The line of a row of depth one or two.
-fn line_at(
-    alloc: Global,
-    tables: &Tables,
-    depth: usize,
-    row: usize,
-    dict: &Dict,
-) -> Result<Text, Memory>
-    requires kept { (mixed : ℕ → ℕ → ℕ → ℕ → ℕ) × AreKept mixed tables.now }
+fn line_at(alloc: Global, all: TablesView<'_>, depth: usize, row: usize) -> Result<Text, Memory>
     requires low { 1 ≤ depth }
     requires high { depth ≤ 2 }
-    requires there { IsSome (row_of tables.now depth row) }
-    requires known { IsOver (has_id dict.now) (set_of tables.now depth row) }
-    requires one { IsOneToOne dict.now }
-    ensures { IfOk result (λ line. line ≡ row_line (row_read dict.now tables.now depth row)) }
+    requires there { IsSome (row_of all.tables.now depth row) }
+    requires known { IsOver (has_id all.dict.now) (set_of all.tables.now depth row) }
+    ensures { IfOk result (λ line. line ≡ row_line (row_read all.entry.dict.now all.entry.tables.now depth row)) }
 {
     let mut members = Vec::new(alloc);
-    add_members(alloc, tables, depth, row, dict, &mut members)?;
-    line_of(alloc, depth, count(tables, depth, row), members)
+    add_members(alloc, all, depth, row, &mut members)?;
+    line_of(alloc, depth, count(all.tables, depth, row), members)
 }
 
 /// Adds the line of each row of depth one or two.
 pub(crate) fn add_row_lines(
     alloc: Global,
-    tables: &Tables,
+    all: TablesView<'_>,
     depth: usize,
-    dict: &Dict,
     lines: &mut Vec<Text>,
 ) -> Result<(), Memory>
-    requires kept { (mixed : ℕ → ℕ → ℕ → ℕ → ℕ) × AreKept mixed tables.now }
     requires low { 1 ≤ depth }
     requires high { depth ≤ 2 }
-    requires known { (r : ℕ) → IsSome (row_of tables.now depth r) → IsOver (has_id dict.now) (set_of tables.now depth r) }
-    requires one { IsOneToOne dict.now }
-    ensures { OnOk result (AddsTexts (row_text dict.now tables.now depth) (key_set (rows_at tables.now depth)) lines.old.items lines.new.items) }
+    requires known { (r : ℕ) → IsSome (row_of all.tables.now depth r) → IsOver (has_id all.dict.now) (set_of all.tables.now depth r) }
+    ensures { OnOk result (AddsTexts (row_text all.entry.dict.now all.entry.tables.now depth) (key_set (rows_at all.entry.tables.now depth)) lines.old.items lines.new.items) }
 {
     let mut from = 0;
     loop {
-        let Some(row) = next_row(tables, depth, from) else {
+        let Some(row) = next_row(all.tables, depth, from) else {
             return Ok(());
         };
-        lines.push(line_at(alloc, tables, depth, row, dict)?)?;
+        lines.push(line_at(alloc, all, depth, row)?)?;
         // A table of so many rows takes more memory than there is.
         if row == usize::MAX {
             return Err(Memory);

@@ -3,7 +3,7 @@ ghost use Rattle.std.specs.Prelude.{◌≡◌, IsPermutation, IfOk};
 ghost use Rattle.std.specs.List.Sorted.{IsSorted};
 ghost use Rattle.std.specs.Ordering.{nat_cmp};
 ghost use Rattle.std.specs.Cmp.Lexicographic.{slice_cmp};
-ghost use Rattle.graph_shape.specs.Sorting.{in_order};
+ghost use Rattle.rdf_model.specs.Sorting.{in_order};
 
 use std::alloc::Global;
 use tn_io::{Lines, Text};

@@ -11,6 +11,7 @@ ghost use Rattle.graph_image.specs.Images.{AreKnown};
 ghost use Rattle.graph_lines.specs.Tried.{is_below_four};
 
 use super::*;
+use graph_view::{GraphView, TablesView};
 use rdf_term::TermRef;
 use std::alloc::Global;
 use std::marker::Brand;
@@ -38,11 +39,9 @@ fn filled<W: Ledger, V: Ledger>(
     requires known { AreKnown dict.now (set_of_entries trip_tuple triples.now) }
     ensures { IsHeld context.new root.new }
 {
-    // This call tells the proof that no two Ids have one term.
-    dict.len();
     grow(alloc, context, root, triples, interns, retains)?;
-    let dumped = dump(alloc, context.tables(), root, dict)?;
-    let shape = shape_lines(alloc, context.tables(), dict)?;
+    let dumped = dump(alloc, GraphView::of(context, root, dict))?;
+    let shape = shape_lines(alloc, TablesView::of(context, dict))?;
     Ok((dumped, shape))
 }
 

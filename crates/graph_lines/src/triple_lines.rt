@@ -9,7 +9,8 @@ ghost use Rattle.rdf_term.specs.Seen.{lent_term};
 ghost use Rattle.term_dict.specs.Dict.{IsOneToOne};
 ghost use Rattle.tuple_image.specs.TupleImages.{IsOver};
 ghost use Rattle.graph_image.specs.Images.{graph_of, AreKnown};
-ghost use Rattle.graph_lines.specs.Walks.{AddsTexts, has_id, line_behind, set_in};
+ghost use Rattle.graph_view.specs.Read.{has_id, set_in};
+ghost use Rattle.graph_lines.specs.Walks.{AddsTexts, line_behind};
 
 use crate::sorted::sorted_lines;
 use rdf_term::{TermRef, canon_text};

@@ -2,7 +2,7 @@
 use Rattle.std.proofs.Common.{◌≡◌, [], ◌∷◌, refl}
 use Rattle.std.specs.Prelude.{codes}
 use Rattle.rdf_model.specs.Terms.{Iri, Literal, Tagged}
-use Rattle.graph_shape.specs.Sorting.{in_order}
+use Rattle.rdf_model.specs.Sorting.{in_order}
 use Rattle.graph_shape.specs.GraphShapes.{member_text, tabbed, depth_name}
 
 pair : member_text (Iri (codes "x:a") ∷ Iri (codes "x:p") ∷ []) ≡ codes "<x:a> <x:p>"

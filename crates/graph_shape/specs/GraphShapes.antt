@@ -8,8 +8,9 @@ use Rattle.hypertrie_model.specs.Shapes.{ShapeRow, row_cmp, two, one, shape}
 use Rattle.rdf_model.specs.Terms.{Text, Term, Triple}
 use Rattle.rdf_model.specs.Texts.{tsv}
 use Rattle.rdf_model.specs.Graph.{Graph, term_cmp}
+unfoldable pub use Rattle.rdf_model.specs.GraphTerms.{terms_of}
 use Rattle.set_image.specs.Images.{image}
-use Rattle.graph_shape.specs.Sorting.{sorted_texts}
+use Rattle.rdf_model.specs.Sorting.{sorted_texts}
 
 -- subject, predicate and object as a tuple
 abbrev pub tuple_of : Triple → List Term
@@ -54,10 +55,6 @@ line_rows G = set.retain (shape term_cmp (tuples_of G)) has_line
 -- the lines of the shape of a graph, in the order of their bytes
 unfoldable pub shape_lines : Graph → List Text
 shape_lines G = sorted_texts row_line (line_rows G)
-
--- the terms of the triples of a graph: its subjects, predicates and objects
-unfoldable pub terms_of : Graph → set.FinSet term_cmp
-terms_of G = set.union (image term_cmp (λ t. t.s) G) (set.union (image term_cmp (λ t. t.p) G) (image term_cmp (λ t. t.o) G))
 
 -- how many triples and terms a graph has, and rows of pairs and of single terms its shape
 pub record Figures : Type 0 where

@@ -7,7 +7,7 @@ use Rattle.hypertrie_model.specs.IdSets.{IdSet}
 use Rattle.rdf_model.specs.Terms.{Text, Term}
 use Rattle.rdf_model.specs.Graph.{Graph, term_cmp}
 use Rattle.tuple_image.specs.TupleImages.{IsOver, IsOneToOneWhere, ReadsShape}
-use Rattle.graph_shape.specs.Sorting.{AreMembersOf, text_cmp}
+use Rattle.rdf_model.specs.Sorting.{AreMembersOf, text_cmp}
 use Rattle.graph_shape.specs.GraphShapes.{GraphRow, member_text, tabbed, depth_name, row_line, line_rows, shape_lines}
 
 -- any list of the rows that have a line, each once, gives the lines of the graph when its lines are sorted

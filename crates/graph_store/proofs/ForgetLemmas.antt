@@ -22,7 +22,7 @@ use Rattle.graph_image.specs.Images.{triple_at, graph_of, AreKnown, terms_of, Ha
 use Rattle.graph_image.specs.TermLaws.{term_in}
 use Rattle.graph_image.specs.ImageLaws.{tuples_total, get_is, term_is, in_graph, known_within, known_difference, graph_of-difference}
 use Rattle.graph_image.specs.DictLaws.{AgreeOnUsed, known_same, graph_same, used_s, used_p, used_o}
-use Rattle.graph_store.specs.Proper.{AreProper}
+use Rattle.ntriples_model.specs.Proper.{AreProper}
 use Rattle.graph_store.specs.State.{IsSound}
 use Rattle.graph_store.specs.Forgotten.{Forgets}
 use Rattle.graph_store.proofs.NotedLemmas.{among-append}

@@ -27,7 +27,7 @@ use Rattle.graph_image.specs.Images.{term_at, triple_at, graph_of, AreKnown, ter
 use Rattle.graph_image.specs.TermLaws.{IsTermOf, term_in, in_terms, len-terms, len-terms_of}
 use Rattle.graph_image.specs.ImageLaws.{tuples_total, tuples_exact, get_is, graph_in, known_union, known_insert, graph_of-insert, graph_of-union, len-graph_of}
 use Rattle.graph_image.specs.DictLaws.{AgreeOnUsed, known_same, graph_same, extends_agree, without_agree, get-without, among_known, known_there}
-use Rattle.graph_store.specs.Proper.{IsProperTriple, AreProper}
+use Rattle.ntriples_model.specs.Proper.{IsProperTriple, AreProper}
 use Rattle.graph_store.specs.State.{State, IsSound, most_triples}
 use Rattle.graph_store.specs.Staging.{Staging, numbers, AreDistinct, Fits}
 use Rattle.graph_store.specs.Noted.{Grows, HasIds, with_terms}

@@ -34,8 +34,8 @@ use Rattle.trie_context.specs.Roots.{root_set}
 use Rattle.trie_context.specs.RootShape.{OnlyRootHeld, root_shape}
 use Rattle.trie_context.specs.Shape.{HasShape}
 use Rattle.trie_context.specs.MoveLaws.{held_there}
-use Rattle.graph_lines.specs.Walks.{has_id}
-use Rattle.graph_lines.proofs.DumpLemmas.{known_ids}
+use Rattle.graph_view.specs.Read.{has_id}
+use Rattle.graph_view.specs.ReadLaws.{known_ids}
 use Rattle.graph_lines.proofs.RowLemmas.{lone_ids, tuples_read}
 use Rattle.graph_store.specs.State.{State, graph, triples_of, IsSound}
 use Rattle.graph_store.specs.Stands.{row_tuples, IsMany, Stands}
@@ -66,8 +66,9 @@ module _ (mixed : ℕ → ℕ → ℕ → ℕ → ℕ) (s : State) (kept : AreKe
     λ _. tt,
   )
 
-  pub stands : Stands s
+  pub stands : Stands mixed s
   stands = record {
+    kept = kept;
     sound = λ d r row at. subst (λ T. InShape term_cmp T d (row_tuples s d r) row.count) (sym same) (read.sound d (set_of s.tables d r) row.count (has_shape.sound d r row at));
     complete = λ d T n e.
         let w = read.complete d T n (subst (λ Z. InShape term_cmp Z d T n) same e) in
@@ -94,7 +95,7 @@ len-tuples : (G : Graph) → set.len (tuples_of G) ≡ set.len G
 unfolding triple_back
 len-tuples G = len-image triples_total exact_triples (lists_total terms_total) (slice_cmp-IsAntisymmetric exact_terms) tuple_of G (λ t there u other alike. ap triple_back alike)
 
-module _ (s : State) (stands : Stands s) where
+module _ (mixed : ℕ → ℕ → ℕ → ℕ → ℕ) (s : State) (stands : Stands mixed s) where
   rows : (d : ℕ) → ℕ
   rows d = map.len (rows_at s.tables d)
 

@@ -1,8 +1,6 @@
-pub mod Proper
 pub mod State
 pub mod Stands
 pub mod Staging
 pub mod Noted
 pub mod Forgotten
 pub mod StagingLaws
-pub mod ProperLaws

@@ -10,7 +10,7 @@ use Rattle.rdf_model.specs.Terms.{Term, Triple}
 use Rattle.rdf_model.specs.Graph.{Graph}
 use Rattle.trie_depth.specs.declared.id.Id.{Id}
 use Rattle.graph_image.specs.Images.{graph_of, terms_of, AreKnown, HasExactly, is_among, without}
-use Rattle.graph_store.specs.Proper.{AreProper}
+use Rattle.ntriples_model.specs.Proper.{AreProper}
 use Rattle.graph_store.specs.State.{State, triples_of, graph, most_triples}
 
 -- the staged triples, and the Ids of the terms that were added for them

@@ -12,6 +12,7 @@ use Rattle.trie_node.specs.declared.node.Node.{Node}
 use Rattle.trie_context.specs.declared.root.Root.{Root}
 use Rattle.trie_context.specs.declared.root.Root.TheVariants.{Empty, One, Many}
 use Rattle.trie_context.specs.Rows.{row_of, set_of}
+use Rattle.trie_context.specs.Kept.{AreKept}
 use Rattle.graph_store.specs.State.{State, graph}
 
 -- the set of the row of a depth with this number, read through the dictionary
@@ -32,7 +33,10 @@ IsMany Empty = ⊥
 IsMany (One triple) = ⊥
 IsMany (Many row) = Unit {0}
 
-pub record Stands (s : State) : Type 0 where
+-- by the mix that the store hashes with
+pub record Stands (mixed : ℕ → ℕ → ℕ → ℕ → ℕ) (s : State) : Type 0 where
+  -- the tables are kept: each set stands once, and is counted as often as something leads to it
+  pub kept : AreKept mixed s.tables
   -- each row, with its tuples and its count, is one of the shape of the graph
   pub sound : (d r : ℕ) (row : Row Node) → row_of s.tables d r ≡ Some row → InShape term_cmp (tuples_of (graph s)) d (row_tuples s d r) row.count
   -- each row of the shape is one of the tables

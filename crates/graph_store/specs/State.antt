@@ -13,7 +13,7 @@ use Rattle.trie_context.specs.contracts.tables.Tables as tables
 use Rattle.trie_context.specs.Roots.{root_set}
 use Rattle.trie_context.specs.RootShape.{OnlyRootHeld}
 use Rattle.graph_image.specs.Images.{graph_of, terms_of, AreKnown, HasExactly}
-use Rattle.graph_store.specs.Proper.{AreProper}
+use Rattle.ntriples_model.specs.Proper.{AreProper}
 
 -- the dictionary, the tables of the graph, its root, and how many triples it may have
 pub record State : Type 0 where

@@ -6,7 +6,6 @@
 #![tactic(auto)]
 
 mod ids;
-mod lookup;
 mod report;
 mod staged;
 mod store;

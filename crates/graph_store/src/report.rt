@@ -28,12 +28,12 @@ impl<M: Mix> Store<M> {
         ensures two { result.two ≡ (figures_of (graph self.now)).two }
         ensures one { result.one ≡ (figures_of (graph self.now)).one }
     {
-        let tables = self.ctx.tables();
+        let all = self.view().all;
         Stats {
             triples: self.triples(),
-            terms: self.dict.len() as u64,
-            two: tables.two.len(),
-            one: tables.one.len(),
+            terms: all.n_terms(),
+            two: all.n_pair_rows(),
+            one: all.n_key_rows(),
         }
     }
 
@@ -41,17 +41,13 @@ impl<M: Mix> Store<M> {
     pub fn shape(&self, alloc: Global) -> Result<Lines, Memory>
         ensures { IfOk result (λ lines. lines ≡ lines_of_shape (graph self.now)) }
     {
-        // This call tells the proof that the dictionary is one to one.
-        self.dict.len();
-        lines::shape_lines(alloc, self.ctx.tables(), &self.dict)
+        lines::shape_lines(alloc, self.view().all)
     }
 
     /// The lines of all triples in N-Triples, sorted by their bytes.
     pub fn dump(&self, alloc: Global) -> Result<Lines, Memory>
         ensures { IfOk result (λ lines. AreDumpLines (graph self.now) lines) }
     {
-        // This call tells the proof that the dictionary is one to one.
-        self.dict.len();
-        lines::dump(alloc, self.ctx.tables(), &self.root, &self.dict)
+        lines::dump(alloc, self.view())
     }
 }

@@ -1,19 +1,19 @@
 //! Triples that are staged, and then put in together or abandoned.
 ghost use Rattle.std.specs.Prelude.{◌≡◌, ◌↔◌, ◌+◌, ◌*◌, ◌<◌, ◌≤◌, ◌||◌, true, IfOk, OnOk, OnErr, IsErrOf};
 ghost use Rattle.std.specs.FinSet as set;
-ghost use Rattle.ntriples.specs.Lent.{lent_triple};
+ghost use Rattle.rdf_term.specs.Seen.{lent_triple};
 ghost use Rattle.hypertrie_model.specs.Changes.{IsChange};
 ghost use Rattle.trie_context.specs.Roots.{root_set};
 ghost use Rattle.trie_context.specs.RootShape.{OnlyRootHeld};
-ghost use Rattle.graph_store.specs.Proper.{IsProperTriple};
+ghost use Rattle.ntriples_model.specs.Proper.{IsProperTriple};
 ghost use Rattle.graph_store.specs.State.{graph, most_triples, IsSettled};
 ghost use Rattle.graph_store.specs.Staging.{nothing_staged, staged_graph, with_new, Fits, before, IsFull};
 ghost use Rattle.graph_store.specs.declared.staged.StageFault.TheVariants as fault;
 
-use crate::lookup::{count, has_triple};
 use crate::store::{Changed, Store};
 use crate::terms::{ids_of, intern_triple, remove_all, take_back};
 use crate::trips::Trips;
+use graph_view::GraphView;
 use ntriples::TripleRef;
 use std::alloc::Global;
 use std::marker::Model;
@@ -103,12 +103,10 @@ impl<M: Mix> Store<M> {
         requires { Fits self.now staged.now }
         ensures { result ≡ (set.contains (graph self.now) (lent_triple triple.entry) || set.contains (staged_graph self.now staged.now) (lent_triple triple.entry)) }
     {
-        // This call tells the proof that the dictionary is one to one.
-        self.dict.len();
         let Some(trip) = ids_of(&self.dict, triple) else {
             return false;
         };
-        has_triple(self.ctx.tables(), &self.root, trip) || staged.trips.has(trip)
+        self.view().has(trip) || staged.trips.has(trip)
     }
 
     /// Stages a triple for which there is a place.
@@ -124,12 +122,11 @@ impl<M: Mix> Store<M> {
         ensures store { OnErr result (self.new ≡ self.old) }
         ensures refused { OnErr result (staged.new ≡ staged.old) }
     {
-        // This call tells the proof that the dictionary is one to one, and so does the next one.
+        // This call tells the proof that the dictionary is one to one.
         self.dict.len();
         let keep = staged.added.len();
         let trip = intern_triple(&mut self.dict, &mut staged.added, triple)?;
-        self.dict.len();
-        if has_triple(self.ctx.tables(), &self.root, trip) {
+        if GraphView::of(&self.ctx, &self.root, &self.dict).has(trip) {
             return Ok(());
         }
         if let Err(fault) = staged.trips.put(trip) {
@@ -169,7 +166,7 @@ impl<M: Mix> Store<M> {
         ) {
             Ok(changed) => Ok(Changed {
                 changed,
-                now: count(self.ctx.tables(), &self.root),
+                now: GraphView::of(&self.ctx, &self.root, &self.dict).len(),
             }),
             Err(fault) => {
                 remove_all(&mut self.dict, &added);

@@ -3,12 +3,15 @@ ghost use Rattle.std.specs.Prelude.{nat_lt, ◌≡◌, ◌≤◌};
 ghost use Rattle.std.specs.FinMap as map;
 ghost use Rattle.std.specs.FinSet as set;
 ghost use Rattle.trie_context.specs.Rows.{no_tables};
-ghost use Rattle.trie_context.specs.Kept.{AreKept};
-ghost use Rattle.graph_store.specs.Proper.{AreProper};
-ghost use Rattle.graph_store.specs.State.{graph, most_triples, IsSettled};
+ghost use Rattle.trie_context.specs.Shape.{HasShape};
+ghost use Rattle.term_dict.specs.Dict.{IsOneToOne};
+ghost use Rattle.ntriples_model.specs.Proper.{AreProper};
+ghost use Rattle.graph_image.specs.Images.{AreKnown};
+ghost use Rattle.graph_view.specs.Views.{triples_in};
+ghost use Rattle.graph_store.specs.State.{graph, triples_of, most_triples, IsSettled};
 ghost use Rattle.graph_store.specs.Stands.{Stands};
 
-use crate::lookup::count;
+use graph_view::GraphView;
 use std::alloc::Global;
 use std::marker::Model;
 use term_dict::Dict;
@@ -74,12 +77,21 @@ impl<M: Mix> Store<M> {
         ensures few { result ≤ most_triples }
         ensures limit { self.now.max ≤ most_triples }
         ensures proper { AreProper (graph self.now) }
-        ensures kept { AreKept M.mixed self.now.tables }
-        ensures stands { Stands self.now }
+        ensures stands { Stands M.mixed self.now }
     {
-        // These calls tell the proof that the dictionary is one to one, and that the tables are kept.
-        self.dict.len();
-        count(self.ctx.tables(), &self.root)
+        GraphView::of(&self.ctx, &self.root, &self.dict).len()
+    }
+
+    /// The graph, to be read with its dictionary.
+    pub(crate) fn view(&self) -> GraphView<'_>
+        ensures tables { result.all.tables.now ≡ self.now.tables }
+        ensures terms { result.all.dict.now ≡ self.now.dict }
+        ensures triples { triples_in result ≡ triples_of self.now }
+        ensures one { IsOneToOne self.now.dict }
+        ensures known { AreKnown self.now.dict (triples_of self.now) }
+        ensures shape { HasShape self.now.tables (triples_of self.now) }
+    {
+        GraphView::of(&self.ctx, &self.root, &self.dict)
     }
 
     /// Whether the graph has more triples than it may have.

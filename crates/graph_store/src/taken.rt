@@ -1,33 +1,34 @@
 //! Triples that are marked, and then deleted together.
-ghost use Rattle.std.specs.Prelude.{◌≡◌, ◌+◌, ◌*◌, ◌≤◌, ℕ, true, false, IsSome, IfOk, OnOk, OnErr};
+ghost use Rattle.std.specs.Prelude.{◌≡◌, ◌+◌, ◌*◌, ◌≤◌, ℕ, true, false, IsSome, IfSome, IfOk, OnOk, OnErr};
 ghost use Rattle.std.specs.FinMap as map;
 ghost use Rattle.std.specs.FinSet as set;
-ghost use Rattle.ntriples.specs.Lent.{lent_triple};
+ghost use Rattle.rdf_term.specs.Seen.{lent_triple};
 ghost use Rattle.hypertrie_model.specs.Changes.{IsChange};
 ghost use Rattle.trie_depth.specs.Tuples.{trip_tuple};
-ghost use Rattle.trie_context.specs.Kept.{AreKept};
 ghost use Rattle.trie_context.specs.Roots.{root_set};
 ghost use Rattle.trie_context.specs.RootShape.{OnlyRootHeld};
 ghost use Rattle.trie_update.specs.Batches.{set_of_entries, IsOnce};
-ghost use Rattle.trie_view.specs.Places.{IsRootThere};
+ghost use Rattle.trie_view.specs.Subs.{sub_depth, sub_set};
 ghost use Rattle.graph_image.specs.Images.{is_among, IsUsed};
+ghost use Rattle.graph_view.specs.Read.{set_in};
 ghost use Rattle.graph_store.specs.State.{graph, most_triples, IsSettled};
 ghost use Rattle.graph_store.specs.Staging.{marked_graph, with_marked, AreMarked, numbers, AreDistinct};
 ghost use Rattle.graph_store.specs.Forgotten.{Forgets};
 
 use crate::ids::ids_in;
-use crate::lookup::{count, has_triple, is_used};
 use crate::store::{Changed, Store};
 use crate::terms::ids_of;
 use crate::trips::Trips;
+use graph_view::{GraphView, is_used};
 use ntriples::TripleRef;
 use std::alloc::Global;
 use std::marker::Model;
 use std::sync::ledger::Ledger;
 use term_dict::Dict;
-use trie_context::{Context, Root, Tables};
+use trie_context::{Context, Root};
 use trie_depth::{Id, Memory, Mix, Steps, Trip};
 use trie_update::shrink;
+use trie_view::Sub;
 
 /// Triples of a graph that are to go.
 #[derive(Drop)]
@@ -64,12 +65,10 @@ impl<M: Mix> Store<M> {
         ensures there { AreMarked self.now taken.old → AreMarked self.now taken.new }
         ensures refused { OnErr result (taken.new ≡ taken.old) }
     {
-        // This call tells the proof that the dictionary is one to one.
-        self.dict.len();
         let Some(trip) = ids_of(&self.dict, triple) else {
             return Ok(());
         };
-        if has_triple(self.ctx.tables(), &self.root, trip) {
+        if self.view().has(trip) {
             taken.trips.put(trip)?;
         }
         Ok(())
@@ -106,10 +105,11 @@ impl<M: Mix> Store<M> {
             interns,
             retains,
         )?;
-        forget(&mut self.dict, self.ctx.tables(), &self.root, &ids);
+        let left = Sub::of(self.ctx.tables(), &self.root);
+        forget(&mut self.dict, left, &ids);
         Ok(Changed {
             changed: batch.len() as u64,
-            now: count(self.ctx.tables(), &self.root),
+            now: GraphView::of(&self.ctx, &self.root, &self.dict).len(),
         })
     }
 }
@@ -138,16 +138,15 @@ fn take_out<M: Mix, W: Ledger, V: Ledger>(
     shrink(alloc, context, root, batch, interns, retains)
 }
 
-/// Takes those of the Ids out that no triple of the graph has.
-fn forget(dict: &mut Dict, tables: &Tables, root: &Root, ids: &[Id])
-    requires kept { (mixed : ℕ → ℕ → ℕ → ℕ → ℕ) × AreKept mixed tables.now }
-    requires root { IsRootThere tables.now root.now }
+/// Takes those of the Ids out that no triple that is left has.
+fn forget(dict: &mut Dict, left: Option<Sub<'_>>, ids: &[Id])
+    requires deep { IfSome left (λ s. sub_depth s ≡ 3) }
     requires there { (id : ℕ) → is_among (numbers ids.now) id ≡ true → IsSome (map.get dict.old id) }
     requires once { AreDistinct (numbers ids.now) }
-    ensures { Forgets dict.old dict.new (numbers ids.now) (IsUsed (root_set tables.now root.now)) }
+    ensures { Forgets dict.old dict.new (numbers ids.now) (IsUsed (set_in sub_set left.entry)) }
 {
     for id in ids {
-        if !is_used(tables, root, *id) {
+        if !is_used(left, *id) {
             dict.remove(*id);
         }
     }

@@ -4,7 +4,7 @@ ghost use Rattle.std.specs.FinMap as map;
 ghost use Rattle.std.specs.FinSet as set;
 ghost use Rattle.rdf_model.specs.Graph.{term_cmp};
 ghost use Rattle.rdf_term.specs.Seen.{lent_term};
-ghost use Rattle.ntriples.specs.Lent.{lent_triple};
+ghost use Rattle.rdf_term.specs.Seen.{lent_triple};
 ghost use Rattle.term_dict.specs.Dict.{IsNew};
 ghost use Rattle.graph_image.specs.Images.{HasExactly, is_among, without};
 ghost use Rattle.graph_store.specs.Staging.{numbers, AreDistinct};

@@ -1,3 +1,4 @@
+pub mod BlankLemmas
 pub mod PlaceLemmas
 pub mod TermLemmas
 pub mod TerminalLemmas

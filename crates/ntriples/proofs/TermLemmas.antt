@@ -8,7 +8,9 @@ use Rattle.std.proofs.lemmas.List.{take_all}
 use Rattle.rdf_model.specs.Terms as model
 use Rattle.rdf_model.specs.Terms.{Text}
 use Rattle.ntriples_model.specs.Terminals.{iri_at, string_at, label_at, tag_at}
-use Rattle.ntriples_model.specs.Line.{xsd_string, scoped, is_blank, made, or_else, after_blanks, is_note, subject_at, predicate_at, kind_at, literal_at, object_at, is_end, triple_of, triple_at, some_triple, form_at, said}
+use Rattle.text_lines.specs.Blanks.{is_blank, after_blanks}
+use Rattle.rdf_model.specs.Texts.{xsd_string}
+use Rattle.ntriples_model.specs.Line.{scoped, made, or_else, is_note, subject_at, predicate_at, kind_at, literal_at, object_at, is_end, triple_of, triple_at, some_triple, form_at, said}
 use Rattle.ntriples.specs.declared.place.Place.{Place}
 use Rattle.ntriples.specs.declared.place.Place.TheVariants.{Iri, Blank, Plain, Typed, Tagged}
 use Rattle.ntriples.specs.Places.{text_at, term_at, IsWithin, ReadsText, ReadsTerm, scoped_label_at}

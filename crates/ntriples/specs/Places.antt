@@ -2,7 +2,8 @@
 use Rattle.std.specs.Prelude.{◌≡◌, ℕ, ◌+◌, ◌≤◌, ◌<◌, List, [], ◌∷◌, ◌++◌, length, sum_by, slice_get, unwrap_or, Option, Some}
 use Rattle.rdf_model.specs.Terms as model
 use Rattle.rdf_model.specs.Terms.{Text}
-use Rattle.ntriples_model.specs.Line.{xsd_string, made, scoped}
+use Rattle.rdf_model.specs.Texts.{xsd_string}
+use Rattle.ntriples_model.specs.Line.{made, scoped}
 use Rattle.ntriples_model.specs.Terminals.{label_at}
 use Rattle.ntriples.specs.declared.place.Place.{Place}
 use Rattle.ntriples.specs.declared.place.Places.{Places}

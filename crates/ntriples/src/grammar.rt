@@ -1,30 +1,34 @@
 //! The productions of a line (`ntriples_model`'s `specs/Line.antt`), from its front.
 ghost use Rattle.std.specs.Prelude.{◌≡◌, ◌+◌, ◌<◌, ◌≤◌, length, slice_index, sum_by, None, Some, MatchOption};
 ghost use Rattle.ntriples_model.specs.Line as line;
+ghost use Rattle.text_lines.specs.Blanks as blanks;
 ghost use Rattle.ntriples_model.specs.Line.{subject_at, predicate_at, literal_at, object_at, triple_at};
 ghost use Rattle.ntriples.specs.Places.{ReadsTerm, triple_at_places, AreWithin};
 
 use crate::place::{Place, Places};
 use crate::terminal::{iri, label, string, tag};
+use bstr::ByteSlice;
 use rdf_term::Scratch;
 
-fn is_blank(b: u8) -> bool
-    ensures { result ≡ line.is_blank b }
+// What stands behind the blanks, of which there may be many.
+fn skip_blanks(bytes: &[u8]) -> &[u8]
+    ensures { result.now ≡ blanks.after_blanks bytes.now }
 {
-    b == b' ' || b == b'\t'
+    &bytes[bytes.find_not_byteset(b" \t").unwrap_or(bytes.len())..]
 }
 
-/// What stands behind the blanks.
+/// What stands behind the blanks. Most often there is one: a set's table is made only for more.
 pub(crate) fn after_blanks(bytes: &[u8]) -> &[u8]
-    ensures rest { result.now ≡ line.after_blanks bytes.now }
+    ensures rest { result.now ≡ blanks.after_blanks bytes.now }
     ensures within { length result.now ≤ length bytes.now }
 {
-    for (i, b) in bytes.iter().enumerate() {
-        if !is_blank(*b) {
-            return &bytes[i..];
-        }
+    match bytes {
+        [b' ' | b'\t', rest @ ..] => match rest {
+            [b' ' | b'\t', ..] => skip_blanks(rest),
+            _ => rest,
+        },
+        _ => bytes,
     }
-    &bytes[bytes.len()..]
 }
 
 // The byte at place `i`, or 0 where there is none.

@@ -9,19 +9,13 @@ mod tests;
 
 ghost use Rattle.std.specs.Prelude.{◌≡◌, ◌≤◌, length, Some, None, IfErr, IfOk, OnErr};
 ghost use Rattle.ntriples_model.specs.Line.{said};
-ghost use Rattle.ntriples.specs.Lent.{lent_triples};
+ghost use Rattle.rdf_term.specs.Seen.{lent_triples};
 ghost use Rattle.ntriples.specs.Fault.{IsFault};
 
 use crate::grammar::{after_blanks, is_note, triple};
-use rdf_term::{Scratch, TermRef};
+use rdf_term::Scratch;
 
-/// A triple whose texts are lent.
-#[derive(Clone, Copy, Debug)]
-pub struct TripleRef<'a> {
-    pub s: TermRef<'a>,
-    pub p: TermRef<'a>,
-    pub o: TermRef<'a>,
-}
+pub use rdf_term::TripleRef;
 
 /// Why a line was refused.
 #[derive(Clone, Copy, Debug, PartialEq, Eq)]

@@ -3,9 +3,7 @@ ghost use Rattle.std.specs.Prelude.{◌≡◌, length};
 ghost use Rattle.rdf_term.specs.Seen.{lent_term};
 ghost use Rattle.ntriples.specs.Places.{IsWithin, term_at};
 
-use rdf_term::{KindRef, Scratch, TermRef};
-
-const XSD_STRING: &str = "http://www.w3.org/2001/XMLSchema#string";
+use rdf_term::{KindRef, Scratch, TermRef, XSD_STRING};
 
 /// A term by the places of its texts.
 #[derive(Clone, Copy, Debug)]

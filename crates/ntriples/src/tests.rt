@@ -2,10 +2,8 @@
 ghost use Rattle.std.specs.Prelude.{◌≤◌, length};
 
 use super::{LineFault, read_line};
-use rdf_term::{KindRef, Scratch, TermRef};
+use rdf_term::{KindRef, Scratch, TermRef, XSD_STRING};
 use trie_depth::Memory;
-
-const STRING: &str = "http://www.w3.org/2001/XMLSchema#string";
 
 // The object of a line, where its subject and predicate are `<x:a>` and `<x:p>`.
 fn object<'a>(line: &[u8], to: &'a mut Scratch) -> Option<TermRef<'a>>
@@ -48,51 +46,51 @@ fn good_lines(rt: HostRuntime) -> Result<(), Memory> {
         (b"<x:a> <x:p> <x:\\u0021\\u007E> .", TermRef::Iri("x:!~")),
         (
             b"<x:a> <x:p> \"a\" .",
-            TermRef::Literal("a", KindRef::Typed(STRING)),
+            TermRef::Literal("a", KindRef::Typed(XSD_STRING)),
         ),
         (
             b"<x:a> <x:p> \"\" .",
-            TermRef::Literal("", KindRef::Typed(STRING)),
+            TermRef::Literal("", KindRef::Typed(XSD_STRING)),
         ),
         (
             b"<x:a> <x:p> \"a\".",
-            TermRef::Literal("a", KindRef::Typed(STRING)),
+            TermRef::Literal("a", KindRef::Typed(XSD_STRING)),
         ),
         (
             b"<x:a> <x:p> \"\\t\\b\\n\\r\\f\\\"\\'\\\\\" .",
-            TermRef::Literal("\t\u{8}\n\r\u{c}\"'\\", KindRef::Typed(STRING)),
+            TermRef::Literal("\t\u{8}\n\r\u{c}\"'\\", KindRef::Typed(XSD_STRING)),
         ),
         (
             b"<x:a> <x:p> \"\\u00e9\" .",
-            TermRef::Literal("\u{e9}", KindRef::Typed(STRING)),
+            TermRef::Literal("\u{e9}", KindRef::Typed(XSD_STRING)),
         ),
         (
             b"<x:a> <x:p> \"\\U0001F600\" .",
-            TermRef::Literal("\u{1f600}", KindRef::Typed(STRING)),
+            TermRef::Literal("\u{1f600}", KindRef::Typed(XSD_STRING)),
         ),
         (
             b"<x:a> <x:p> \"\xc3\xa9\xf0\x9f\x98\x80\" .",
-            TermRef::Literal("\u{e9}\u{1f600}", KindRef::Typed(STRING)),
+            TermRef::Literal("\u{e9}\u{1f600}", KindRef::Typed(XSD_STRING)),
         ),
         (
             b"<x:a> <x:p> \"a\tb\" .",
-            TermRef::Literal("a\tb", KindRef::Typed(STRING)),
+            TermRef::Literal("a\tb", KindRef::Typed(XSD_STRING)),
         ),
         (
             b"<x:a> <x:p> \"# <> '{}|^`\" .",
-            TermRef::Literal("# <> '{}|^`", KindRef::Typed(STRING)),
+            TermRef::Literal("# <> '{}|^`", KindRef::Typed(XSD_STRING)),
         ),
         (
             b"<x:a> <x:p> \"\\\\u0041\" .",
-            TermRef::Literal("\\u0041", KindRef::Typed(STRING)),
+            TermRef::Literal("\\u0041", KindRef::Typed(XSD_STRING)),
         ),
         (
             b"<x:a> <x:p> \"\\u0000\" .",
-            TermRef::Literal("\u{0}", KindRef::Typed(STRING)),
+            TermRef::Literal("\u{0}", KindRef::Typed(XSD_STRING)),
         ),
         (
             b"<x:a> <x:p> \"\\uD7FF\\uE000\\U0010FFFF\" .",
-            TermRef::Literal("\u{d7ff}\u{e000}\u{10ffff}", KindRef::Typed(STRING)),
+            TermRef::Literal("\u{d7ff}\u{e000}\u{10ffff}", KindRef::Typed(XSD_STRING)),
         ),
         (
             b"<x:a> <x:p> \"a\"@en .",
@@ -128,7 +126,7 @@ fn good_lines(rt: HostRuntime) -> Result<(), Memory> {
         ),
         (
             b"<x:a> <x:p> \"a\"^^<http://www.w3.org/2001/XMLSchema#string> .",
-            TermRef::Literal("a", KindRef::Typed(STRING)),
+            TermRef::Literal("a", KindRef::Typed(XSD_STRING)),
         ),
         (
             b"<x:a> <x:p> \"a\"^^<http://www.w3.org/1999/02/22-rdf-syntax-ns#langString> .",

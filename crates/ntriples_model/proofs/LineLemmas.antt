@@ -6,7 +6,9 @@ use Rattle.std.proofs.lemmas.Str.{IsUtf8-from_is_utf8, is_utf8-from_IsUtf8}
 use Rattle.std.proofs.lemmas.Bool.Decides.{nat_tests}
 use Rattle.rdf_model.specs.Terms.{Text, Kind, Typed, Tagged, Term, Iri, Blank, Literal, Triple}
 use Rattle.ntriples_model.specs.Terminals.{IsIriRef, IsStringLiteral, IsBlankNodeLabel, IsLangTag, iri_at, string_at, label_at, tag_at}
-use Rattle.ntriples_model.specs.Line.{is_blank, xsd_string, scoped, IsBlanks, IsComment, none, comment, Stands, IsSubject, iri_node, blank_node, IsPredicate, iri, IsKind, plain, typed, tagged, IsLiteral, string, IsObject, node, literal, IsEnd, stop, IsForm, nothing, triple, IsLine, after_blanks, is_note, and_then, or_else, made, subject_at, predicate_at, kind_behind, kind_at, literal_at, object_at, is_stop, is_end, triple_of, triple_at, some_triple, form_at, said}
+use Rattle.text_lines.specs.Blanks.{is_blank, after_blanks}
+use Rattle.rdf_model.specs.Texts.{xsd_string}
+use Rattle.ntriples_model.specs.Line.{scoped, IsBlanks, IsComment, none, comment, Stands, IsSubject, iri_node, blank_node, IsPredicate, iri, IsKind, plain, typed, tagged, IsLiteral, string, IsObject, node, literal, IsEnd, stop, IsForm, nothing, triple, IsLine, is_note, and_then, or_else, made, subject_at, predicate_at, kind_behind, kind_at, literal_at, object_at, is_stop, is_end, triple_of, triple_at, some_triple, form_at, said}
 
 -- A terminal is found exactly where it stands.
 pub record Finds (IsTerminal : Text → Text → Type 0) (at : List ℕ → Option (Text × Text)) : Type 0 where

@@ -4,16 +4,10 @@
 use Rattle.std.specs.Prelude.{◌≡◌, ℕ, Bool, true, false, ◌||◌, List, [], ◌∷◌, ◌++◌, Option, Some, None, ◌==◌, if◌then◌else◌, slice_index, drop, codes, IsUtf8}
 use Rattle.std.specs.List.{AllByRecursion}
 use Rattle.std.specs.Str.{is_utf8}
+use Rattle.text_lines.specs.Blanks.{is_blank, after_blanks}
+use Rattle.rdf_model.specs.Texts.{xsd_string}
 use Rattle.rdf_model.specs.Terms.{Text, Kind, Typed, Tagged, Term, Iri, Blank, Literal, Triple}
 use Rattle.ntriples_model.specs.Terminals.{IsIriRef, IsStringLiteral, IsBlankNodeLabel, IsLangTag, iri_at, string_at, label_at, tag_at}
-
--- space and tab
-abbrev pub is_blank : ℕ → Bool
-is_blank b = b == 32 || b == 9
-
--- the datatype of a literal that names none
-abbrev pub xsd_string : Text
-xsd_string = codes "http://www.w3.org/2001/XMLSchema#string"
 
 -- the label of a node under a scope: the label itself where the scope is empty, else the scope, two full stops and the label
 abbrev pub scoped : Text → Text → Text
@@ -81,10 +75,6 @@ pub record IsLine (scope line : Text) (says : Option Triple) : Type 0 where
   pub form : IsForm scope line says
 
 -- From the front: each gives what begins the bytes, and the bytes behind it
-
-abbrev pub after_blanks : List ℕ → List ℕ
-after_blanks [] = []
-after_blanks (b ∷ bs) = if is_blank b then after_blanks bs else b ∷ bs
 
 -- nothing, or a comment
 abbrev pub is_note : List ℕ → Bool

@@ -34,10 +34,6 @@ IsTermText text (Iri iri) = IsIriRef text iri
 IsTermText text (Blank label) = IsBlankNodeLabel text label
 IsTermText text (Literal form kind) = IsLiteralText text form kind
 
--- a term whose N-Triples text stands for it
-abbrev pub IsProper : Term → Type 0
-IsProper t = IsTermText (canon t) t
-
 -- A term that has a text has these two, without a limit of length; and a label stays one under a scope.
 pub record TextsStand : Type 0 where
   pub in_ntriples : (text : Text) (t : Term) → IsTermText text t → IsTermText (canon t) t

@@ -4,6 +4,7 @@
 
 ghost use Rattle.ntriples_model.specs.Laws.{FindsLongest};
 ghost use Rattle.ntriples_model.specs.LineLaw.{SaysAsProductions};
+ghost use Rattle.ntriples_model.specs.Proper.{LinesSayProperTriples, TextsOfLinesStand};
 ghost use Rattle.ntriples_model.specs.TermText.{TextsStand};
 ghost use Rattle.ntriples_model.specs.Terminals.{IsIriRef, IsStringLiteral, IsBlankNodeLabel, IsLangTag, iri_at, string_at, label_at, tag_at};
 
@@ -23,4 +24,10 @@ pub fn lines_by_productions()
 /// Both texts of a term stand for the term again, where any text does; so does that of a label under a scope.
 pub fn texts_stand_for_their_terms()
     ensures { TextsStand }
+{}
+
+/// A triple that a line says is a proper one, and both texts of each of its terms stand for the term again.
+pub fn lines_say_proper_triples()
+    ensures proper { LinesSayProperTriples }
+    ensures texts { TextsOfLinesStand }
 {}

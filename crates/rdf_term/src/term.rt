@@ -1,11 +1,11 @@
 //! Terms and triples (RDF 1.1 Concepts, section 3), owned and lent. Both are seen as the terms of the definitions by
-//! `term_of`, `lent_term` and `triple_of` (`specs/Seen.antt`). The order is by kind, in the order written here, then by
+//! `term_of`, `lent_term` and `lent_triple` (`specs/Seen.antt`). The order is by kind, in the order written here, then by
 //! the bytes of the texts; two terms are equal where kinds and texts are.
 ghost use Rattle.std.specs.Prelude.{◌≡◌, ◌↔◌, IsTrue, IfOk};
 ghost use Rattle.rdf_model.specs.Graph.{term_cmp};
 ghost use Rattle.rdf_term.specs.Seen.{kind_of, term_of, lent_kind, lent_term};
 
-use std::alloc::{AllocError, Global};
+use std::alloc::Global;
 use std::cmp::Ordering;
 use tn_io::Text;
 use trie_depth::Memory;
@@ -42,12 +42,12 @@ pub enum TermRef<'a> {
     Literal(&'a str, KindRef<'a>),
 }
 
-/// Subject, predicate and object.
-#[derive(Debug, Drop)]
-pub struct Triple {
-    pub s: Term,
-    pub p: Term,
-    pub o: Term,
+/// Subject, predicate and object, lent.
+#[derive(Clone, Copy, Debug)]
+pub struct TripleRef<'a> {
+    pub s: TermRef<'a>,
+    pub p: TermRef<'a>,
+    pub o: TermRef<'a>,
 }
 
 impl<'a> KindRef<'a> {
@@ -122,78 +122,4 @@ pub fn order_of(a: &Term, b: &Term) -> Ordering
     ensures { result ≡ term_cmp (term_of a.now) (term_of b.now) }
 {
     a.cmp(b)
-}
-
-impl Clone for Triple {
-    ghost use Rattle.std.specs.Prelude.{◌≡◌};
-
-    ghost is_clone = { λ triple copy. copy ≡ triple };
-
-    fn clone(&self) -> Result<Triple, AllocError> {
-        Ok(Triple {
-            s: self.s.clone()?,
-            p: self.p.clone()?,
-            o: self.o.clone()?,
-        })
-    }
-}
-
-impl PartialEq for Triple {
-    ghost use Rattle.std.specs.Ordering.{eq_by_cmp, on};
-    ghost use Rattle.std.specs.Cmp.{partial_equiv_from_equiv, eq_by_cmp_equiv, on_total};
-    ghost use Rattle.rdf_model.specs.Graph.{triple_cmp, triples_total};
-    ghost use Rattle.rdf_term.specs.Seen.{triple_of};
-
-    ghost eq = { eq_by_cmp (on triple_of triple_cmp) };
-
-    ghost laws = { partial_equiv_from_equiv (eq_by_cmp_equiv (on_total triple_of triples_total)) };
-
-    fn eq(&self, other: &Self) -> bool {
-        self.cmp(other) == Ordering::Equal
-    }
-}
-
-impl Eq for Triple {
-    ghost use Rattle.std.specs.Cmp.{eq_by_cmp_equiv, on_total};
-    ghost use Rattle.rdf_model.specs.Graph.{triples_total};
-    ghost use Rattle.rdf_term.specs.Seen.{triple_of};
-
-    ghost laws = { eq_by_cmp_equiv (on_total triple_of triples_total) };
-}
-
-impl PartialOrd for Triple {
-    ghost use Rattle.std.specs.Ordering.{on, as_partial_cmp};
-    ghost use Rattle.std.specs.Cmp.{partial_order_from_total, on_total};
-    ghost use Rattle.rdf_model.specs.Graph.{triple_cmp, triples_total};
-    ghost use Rattle.rdf_term.specs.Seen.{triple_of};
-
-    ghost partial_cmp = { as_partial_cmp (on triple_of triple_cmp) };
-
-    ghost laws = { partial_order_from_total (on_total triple_of triples_total) };
-
-    fn partial_cmp(&self, other: &Self) -> Option<Ordering> {
-        Some(self.cmp(other))
-    }
-}
-
-impl Ord for Triple {
-    ghost use Rattle.std.specs.Prelude.{refl};
-    ghost use Rattle.std.specs.Ordering.{on};
-    ghost use Rattle.std.specs.Cmp.{on_total};
-    ghost use Rattle.rdf_model.specs.Graph.{triple_cmp, triples_total};
-    ghost use Rattle.rdf_term.specs.Seen.{triple_of};
-
-    ghost cmp = { on triple_of triple_cmp };
-
-    ghost total = { on_total triple_of triples_total };
-
-    ghost matches_partial_cmp = { λ x y. refl };
-
-    ghost matches_eq = { λ x y. refl };
-
-    fn cmp(&self, other: &Self) -> Ordering {
-        order_of(&self.s, &other.s)
-            .then(order_of(&self.p, &other.p))
-            .then(order_of(&self.o, &other.o))
-    }
 }

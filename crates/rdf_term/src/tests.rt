@@ -1,6 +1,6 @@
 //! Terminals, texts and terms on inputs whose answers were taken from the W3C texts by hand.
 use crate::{
-    KindRef, Scratch, TermRef, Triple, canon_text, canon_to, is_same, is_same_ref, order_of,
+    KindRef, Scratch, TermRef, XSD_STRING, canon_text, canon_to, is_same, is_same_ref, order_of,
     read_iri, read_label, read_string, read_tag, tsv_text, tsv_to,
 };
 use std::alloc::{AllocError, Global};
@@ -325,7 +325,7 @@ fn is_written(alloc: Global, term: TermRef<'_>, canon: &str, tsv: &str) -> Resul
 #[test]
 fn texts_of_terms(rt: HostRuntime) -> Result<(), Fail> {
     let alloc = rt.alloc();
-    let string = KindRef::Typed("http://www.w3.org/2001/XMLSchema#string");
+    let string = KindRef::Typed(XSD_STRING);
     assert!(rt; is_written(alloc, TermRef::Iri("urn:a"), "<urn:a>", "<urn:a>")?);
     assert!(rt; is_written(alloc, TermRef::Blank("a.b"), "_:a.b", "_:a.b")?);
     assert!(rt; is_written(alloc, TermRef::Literal("", string), "\"\"", "\"\"")?);
@@ -424,24 +424,5 @@ fn terms(rt: HostRuntime) -> Result<(), Fail> {
         ],
     )?;
     assert!(rt; misplaced.is_none(), "{misplaced:?}");
-    Ok(())
-}
-
-#[test]
-fn triples(rt: HostRuntime) -> Result<(), Fail> {
-    let term = TermRef::Iri("a");
-    let less = Triple {
-        s: term.own(rt.alloc())?,
-        p: term.own(rt.alloc())?,
-        o: term.own(rt.alloc())?,
-    };
-    let more = Triple {
-        s: term.own(rt.alloc())?,
-        p: term.own(rt.alloc())?,
-        o: TermRef::Blank("a").own(rt.alloc())?,
-    };
-    assert!(rt; less.cmp(&more) == Ordering::Less);
-    assert!(rt; less == less.clone()?);
-    assert!(rt; less != more);
     Ok(())
 }

@@ -15,9 +15,10 @@ use tn_io::{Failed, Out, Sink, Text};
 use trie_depth::Memory;
 
 /// The datatype of a literal that names none.
-const XSD_STRING: &str = "http://www.w3.org/2001/XMLSchema#string";
+pub const XSD_STRING: &str = "http://www.w3.org/2001/XMLSchema#string";
 
 /// Puts a text between two others.
+#[tactic(auto, using(tn_io::proofs::KnownLemmas::begins_trans))]
 fn put_between<K: Sink>(
     out: &mut Out<'_, K>,
     before: &str,
@@ -27,6 +28,7 @@ fn put_between<K: Sink>(
     ensures same_sink { out.new.sink.ghost_name ≡ out.old.sink.ghost_name }
     ensures ok { OnOk result (all_put K.written out.new ≡ append_known (all_put K.written out.old) (before.now ++ text.now ++ behind.now)) }
     ensures err { OnErr result (Begins (K.written out.new.sink.now) (append_known (all_put K.written out.old) (before.now ++ text.now ++ behind.now))) }
+    ensures grows { Begins (K.written out.old.sink.now) (K.written out.new.sink.now) }
     ensures cause { HasCause (K.faults out.old.sink.now) (K.faults out.new.sink.now) result }
 {
     out.put(before.as_bytes())?;
@@ -35,10 +37,12 @@ fn put_between<K: Sink>(
 }
 
 /// Puts a lexical form with its escapes.
+#[tactic(auto, using(tn_io::proofs::KnownLemmas::begins_trans))]
 fn put_form<K: Sink>(out: &mut Out<'_, K>, escapes: Escapes, form: &str) -> Result<(), Failed>
     ensures same_sink { out.new.sink.ghost_name ≡ out.old.sink.ghost_name }
     ensures ok { OnOk result (all_put K.written out.new ≡ append_known (all_put K.written out.old) (form_text escapes form.now)) }
     ensures err { OnErr result (Begins (K.written out.new.sink.now) (append_known (all_put K.written out.old) (form_text escapes form.now))) }
+    ensures grows { Begins (K.written out.old.sink.now) (K.written out.new.sink.now) }
     ensures cause { HasCause (K.faults out.old.sink.now) (K.faults out.new.sink.now) result }
 {
     let mut left = form;
@@ -54,10 +58,12 @@ fn put_form<K: Sink>(out: &mut Out<'_, K>, escapes: Escapes, form: &str) -> Resu
 }
 
 /// Puts what stands behind the string of a literal.
+#[tactic(auto, using(tn_io::proofs::KnownLemmas::begins_trans))]
 fn put_kind<K: Sink>(out: &mut Out<'_, K>, kind: KindRef<'_>) -> Result<(), Failed>
     ensures same_sink { out.new.sink.ghost_name ≡ out.old.sink.ghost_name }
     ensures ok { OnOk result (all_put K.written out.new ≡ append_known (all_put K.written out.old) (kind_text (lent_kind kind.entry))) }
     ensures err { OnErr result (Begins (K.written out.new.sink.now) (append_known (all_put K.written out.old) (kind_text (lent_kind kind.entry)))) }
+    ensures grows { Begins (K.written out.old.sink.now) (K.written out.new.sink.now) }
     ensures cause { HasCause (K.faults out.old.sink.now) (K.faults out.new.sink.now) result }
 {
     match kind {
@@ -71,10 +77,12 @@ fn put_kind<K: Sink>(out: &mut Out<'_, K>, kind: KindRef<'_>) -> Result<(), Fail
     }
 }
 
+#[tactic(auto, using(tn_io::proofs::KnownLemmas::begins_trans))]
 fn put_term<K: Sink>(out: &mut Out<'_, K>, escapes: Escapes, t: TermRef<'_>) -> Result<(), Failed>
     ensures same_sink { out.new.sink.ghost_name ≡ out.old.sink.ghost_name }
     ensures ok { OnOk result (all_put K.written out.new ≡ append_known (all_put K.written out.old) (term_text escapes (lent_term t.entry))) }
     ensures err { OnErr result (Begins (K.written out.new.sink.now) (append_known (all_put K.written out.old) (term_text escapes (lent_term t.entry)))) }
+    ensures grows { Begins (K.written out.old.sink.now) (K.written out.new.sink.now) }
     ensures cause { HasCause (K.faults out.old.sink.now) (K.faults out.new.sink.now) result }
 {
     match t {
@@ -94,6 +102,7 @@ pub fn canon_to<K: Sink>(t: TermRef<'_>, out: &mut Out<'_, K>) -> Result<(), Fai
     ensures same_sink { out.new.sink.ghost_name ≡ out.old.sink.ghost_name }
     ensures ok { OnOk result (all_put K.written out.new ≡ append_known (all_put K.written out.old) (canon (lent_term t.entry))) }
     ensures err { OnErr result (Begins (K.written out.new.sink.now) (append_known (all_put K.written out.old) (canon (lent_term t.entry)))) }
+    ensures grows { Begins (K.written out.old.sink.now) (K.written out.new.sink.now) }
     ensures cause { HasCause (K.faults out.old.sink.now) (K.faults out.new.sink.now) result }
 {
     put_term(out, Escapes::Canon, t)
@@ -104,6 +113,7 @@ pub fn tsv_to<K: Sink>(t: TermRef<'_>, out: &mut Out<'_, K>) -> Result<(), Faile
     ensures same_sink { out.new.sink.ghost_name ≡ out.old.sink.ghost_name }
     ensures ok { OnOk result (all_put K.written out.new ≡ append_known (all_put K.written out.old) (tsv (lent_term t.entry))) }
     ensures err { OnErr result (Begins (K.written out.new.sink.now) (append_known (all_put K.written out.old) (tsv (lent_term t.entry)))) }
+    ensures grows { Begins (K.written out.old.sink.now) (K.written out.new.sink.now) }
     ensures cause { HasCause (K.faults out.old.sink.now) (K.faults out.new.sink.now) result }
 {
     put_term(out, Escapes::Tsv, t)

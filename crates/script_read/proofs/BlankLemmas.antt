@@ -2,7 +2,7 @@
 use Rattle.std.proofs.Common.{◌≡◌, ◌∙◌, ℕ, ◌+◌, ◌<◌, true, false, List, [], ◌∷◌, length, take, drop, get_or, reverse, refl, sym, ap, add-one}
 use Rattle.std.proofs.lemmas.List.{reverse-append, reverse-reverse, take_more}
 use Rattle.std.proofs.Math.Seq.{drop-cons}
-use Rattle.script_model.specs.Commands.{is_blank, after_blanks}
+use Rattle.text_lines.specs.Blanks.{is_blank, after_blanks}
 use Rattle.script_read.specs.Forms.{without_blanks_behind}
 
 pub skip_blank : (line : List ℕ) (i : ℕ) → i < length line → is_blank (get_or line i 0) ≡ true → after_blanks (drop i line) ≡ after_blanks (drop (i + 1) line)

@@ -1,6 +1,7 @@
 -- The form that a command names.
 use Rattle.std.specs.Prelude.{ℕ, List, reverse}
-use Rattle.script_model.specs.Commands.{after_blanks, Form, Begins, Whole, Inserts, Deletes, Dump as dump_form, Stats as stats_form, Shape as shape_form}
+use Rattle.text_lines.specs.Blanks.{after_blanks}
+use Rattle.script_model.specs.Commands.{Form, Begins, Whole, Inserts, Deletes, Dump as dump_form, Stats as stats_form, Shape as shape_form}
 use Rattle.script_read.specs.declared.form.Command.{Command}
 use Rattle.script_read.specs.declared.form.Command.TheVariants.{Insert, Delete, Dump, Stats, Shape}
 

@@ -2,7 +2,9 @@
 ghost use Rattle.std.specs.Prelude.{◌≡◌, ◌≤◌, drop, length, Some, take};
 ghost use Rattle.std.specs.Option.{option_map};
 ghost use Rattle.script_model.specs.Commands as spec;
-ghost use Rattle.script_model.specs.Commands.{after_blanks, form_of, trimmed};
+ghost use Rattle.text_lines.specs.Blanks as blanks;
+ghost use Rattle.text_lines.specs.Blanks.{after_blanks};
+ghost use Rattle.script_model.specs.Commands.{form_of, trimmed};
 ghost use Rattle.script_read.specs.Forms.{form_meant, without_blanks_behind};
 
 use crate::form::Command;
@@ -18,7 +20,7 @@ const STATS: &[u8] = b"STATS";
 const SHAPE: &[u8] = b"SHAPE";
 
 fn is_blank(b: u8) -> bool
-    ensures { result ≡ spec.is_blank b }
+    ensures { result ≡ blanks.is_blank b }
 {
     b == b' ' || b == b'\t'
 }

@@ -4,7 +4,7 @@ use Rattle.std.proofs.Common.{sym, ◌∙◌, ap, arith}
 use Rattle.std.specs.List.{flat_map}
 use Rattle.rdf_model.specs.Terms.{Text, Term, Iri, Blank, Literal}
 use Rattle.rdf_model.specs.Texts.{tsv}
-use Rattle.ntriples_model.specs.TermText.{IsProper}
+use Rattle.ntriples_model.specs.Proper.{IsProper}
 use Rattle.solution_model.specs.Laws.{AreProperValues}
 use Rattle.solution_model.specs.Rows.{Row}
 use Rattle.solution_model.specs.Texts.{field_text, row_text}

@@ -12,7 +12,7 @@ use Rattle.rdf_model.specs.Terms.{Text, Kind, Typed, Tagged, Term, Iri, Blank, L
 use Rattle.rdf_model.specs.Texts.{xsd_string, escaped, escaped_tab, kind_text, tsv, canon}
 use Rattle.ntriples_model.specs.Characters.{is_letter, is_letter_or_digit, is_iri_char, is_pn_chars, is_pn_chars_u, is_pn_chars_base, is_label_start}
 use Rattle.ntriples_model.specs.Terminals.{IsBody, done, plain, escaped as by_escape, IsUchar, short, long, IsIriRef, IsIriEscape, IsDotted, IsBlankNodeLabel, IsTagRest, nothing, next, subtag, IsLangTag}
-use Rattle.ntriples_model.specs.TermText.{IsProper}
+use Rattle.ntriples_model.specs.Proper.{IsProper}
 
 abbrev pub HasNoTab : Text → Type 0
 HasNoTab text = AllByRecursion (λ b. (b == 9) ≡ false) text

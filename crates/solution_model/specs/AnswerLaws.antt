@@ -6,7 +6,7 @@ use Rattle.std.proofs.lemmas.List.Sorted.{IsPermutation-trans, IsPermutation-app
 use Rattle.std.specs.List.Sorted.{IsPermutation, IsSorted}
 use Rattle.rdf_model.specs.Terms.{Text}
 use Rattle.rdf_model.specs.Graph.{Graph}
-use Rattle.graph_shape.specs.Sorting.{text_cmp}
+use Rattle.rdf_model.specs.Sorting.{text_cmp}
 use Rattle.query_grammar.specs.Meaning.{Query}
 use Rattle.bag_model.specs.Answers.{IsAnswer, n_given}
 use Rattle.bag_model.specs.AnswerLaws.{answer-alike}

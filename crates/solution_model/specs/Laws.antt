@@ -6,9 +6,9 @@ use Rattle.std.specs.Ordering.{nat_cmp}
 use Rattle.hypertrie_model.specs.Sets.{has}
 use Rattle.rdf_model.specs.Terms.{Text, Term}
 use Rattle.rdf_model.specs.Graph.{Graph, term_cmp}
-use Rattle.ntriples_model.specs.TermText.{IsProper}
+use Rattle.ntriples_model.specs.Proper.{IsProper}
 use Rattle.tuple_image.specs.TupleImages.{IsOneToOneWhere}
-use Rattle.graph_shape.specs.Sorting.{text_cmp}
+use Rattle.rdf_model.specs.Sorting.{text_cmp}
 use Rattle.query_grammar.specs.Meaning.{Query, Pattern}
 use Rattle.bag_model.specs.Answers as bag
 use Rattle.bag_model.specs.Solutions as numbered

@@ -11,4 +11,5 @@ pub mod ReadLaws
 pub mod Labels
 pub mod UniverseLaws
 pub mod AnswerLaws
+pub mod ReadListings
 pub mod Laws

@@ -10,7 +10,7 @@ use Rattle.std.specs.declared.cmp.Ordering.{Ordering}
 use Rattle.std.specs.declared.cmp.Ordering.TheVariants.{Less, Equal, Greater}
 use Rattle.std.specs.Cmp.{IsTotalOrder}
 use Rattle.std.specs.FinMap as map
-use Rattle.std.specs.FinMap.{is_sorted}
+use Rattle.std.specs.FinMap.{FinMap, is_sorted}
 use Rattle.std.specs.FinMap.Entries.{below_all}
 use Rattle.std.specs.FinSet as set
 use Rattle.std.specs.FinSet.{FinSet, IsAntisymmetric}
@@ -40,6 +40,10 @@ module _ {K X : Type 0} (R : K → K → Ordering) where
   rising [] h = tt
   rising (e ∷ es) h = (below e.0 es (split_left _ _ h), rising es (split_right _ _ h))
 
+-- no key of a map stands twice
+pub distinct-keys : {K X : Type 0} {R : K → K → Ordering} (m : FinMap R X) → IsDistinct (eq_by_cmp R) (map.keys m)
+distinct-keys {R = R} m = IsDistinct-from_sorted R (map.keys m) (rising R (map.entries m) (map.entries_sorted m))
+
 module _ {K : Type 0} {R : K → K → Ordering} (o : IsTotalOrder R) (exact : IsAntisymmetric R) where
   pub any-members : (s : FinSet R) (k : K) → list_any (eq_by_cmp R k) (members s) ≡ set.contains s k
   unfolding members
@@ -50,4 +54,4 @@ module _ {K : Type 0} {R : K → K → Ordering} (o : IsTotalOrder R) (exact : I
 
   pub distinct-members : (s : FinSet R) → IsDistinct (eq_by_cmp R) (members s)
   unfolding members
-  distinct-members s = IsDistinct-from_sorted R (map.keys (marked s)) (rising R (map.entries (marked s)) (map.entries_sorted (marked s)))
+  distinct-members s = distinct-keys (marked s)

@@ -5,8 +5,8 @@ use Rattle.std.proofs.lemmas.List.Sorted.{IsPermutation-refl, IsPermutation-cons
 use Rattle.std.specs.List.Sorted.{IsPermutation, IsSorted}
 use Rattle.std.specs.Ordering.{is_lt}
 use Rattle.rdf_model.specs.Terms.{Text}
-use Rattle.graph_shape.specs.Sorting.{text_cmp, placed, in_order}
-use Rattle.graph_shape.specs.SortLaws.{sorted_is}
+use Rattle.rdf_model.specs.Sorting.{text_cmp, placed, in_order}
+use Rattle.rdf_model.specs.SortLaws.{sorted_is}
 use Rattle.solution_model.specs.Ordered.{placed_by, ordered_by}
 
 module _ {X : Type 0} (text : X → Text) where

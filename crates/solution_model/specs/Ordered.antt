@@ -2,7 +2,7 @@
 use Rattle.std.specs.Prelude.{cond, List, [], ◌∷◌}
 use Rattle.std.specs.Ordering.{is_lt}
 use Rattle.rdf_model.specs.Terms.{Text}
-use Rattle.graph_shape.specs.Sorting.{text_cmp}
+use Rattle.rdf_model.specs.Sorting.{text_cmp}
 
 module _ {X : Type 0} (text : X → Text) where
   -- the member before the first whose text isn't below its own

@@ -133,6 +133,14 @@ module _ {A : Type 0} (known : A → Bool) where
   pub all_rows_known : (R : A → A → Ordering) (u : List A) (n : ℕ) (rests : List (Rest R)) (columns : List (Option ℕ)) → list_all known u ≡ true → AllByRecursion (λ row. is_known_row row ≡ true) (all_rows R u n rests columns)
   all_rows_known R u n rests columns all = rows_known columns (solutions R u n rests) (all-filter (is_solution R rests) (λ a. list_all known a ≡ true) (assignments u n) (assignments_known u n all))
 
+  first_places_known : (R : A → A → Ordering) (rows : List (List (Option A))) → AllByRecursion (λ row. is_known_row row ≡ true) rows → AllByRecursion (λ row. is_known_row row ≡ true) (first_places R rows)
+  first_places_known R [] all = tt
+  first_places_known R (r ∷ rows) all = (all.0, all-filter (λ q. not (same_row R r q)) (λ row. is_known_row row ≡ true) (first_places R rows) (first_places_known R rows all.1))
+
+  pub chosen_rows_known : (R : A → A → Ordering) (distinct : Bool) (rows : List (List (Option A))) → AllByRecursion (λ row. is_known_row row ≡ true) rows → AllByRecursion (λ row. is_known_row row ≡ true) (chosen_rows R distinct rows)
+  chosen_rows_known R false rows all = all
+  chosen_rows_known R true rows all = first_places_known R rows all
+
 module _ {A B : Type 0} {R : A → A → Ordering} {P : B → B → Ordering} (o : IsTotalOrder R) (exact : IsAntisymmetric R) (op : IsTotalOrder P) (exact_p : IsAntisymmetric P) (f : A → B) (known : A → Bool) (one : IsOneToOneWhere known f) where
   same_tuple : (t u : List A) → list_all known t ≡ true → list_all known u ≡ true → map f t ≡ map f u → t ≡ u
   same_tuple [] [] kt ku e = refl
@@ -198,17 +206,13 @@ module _ {A B : Type 0} {R : A → A → Ordering} {P : B → B → Ordering} (o
       (λ e. ap (same_row R q) (sym (same_values q r kq kr ((exact_rows op exact_p).is (read_row f q) (read_row f r) e))) ∙ (exact_rows o exact).itself q)
       (λ e. ap (λ z. same_row P (read_row f q) (read_row f z)) (sym ((exact_rows o exact).is q r e)) ∙ (exact_rows op exact_p).itself (read_row f q))
 
-  first_places_known : (rows : List (List (Option A))) → AllByRecursion (λ row. is_known_row known row ≡ true) rows → AllByRecursion (λ row. is_known_row known row ≡ true) (first_places R rows)
-  first_places_known [] all = tt
-  first_places_known (r ∷ rows) all = (all.0, all-filter (λ q. not (same_row R r q)) (λ row. is_known_row known row ≡ true) (first_places R rows) (first_places_known rows all.1))
-
   first_places-read : (rows : List (List (Option A))) → AllByRecursion (λ row. is_known_row known row ≡ true) rows → first_places P (map (read_row f) rows) ≡ map (read_row f) (first_places R rows)
   first_places-read [] all = refl
   first_places-read (r ∷ rows) all = ap (λ zs. read_row f r ∷ zs)
       (ap (filter (λ q. not (same_row P (read_row f r) q))) (first_places-read rows all.1)
       ∙ filter-map (read_row f) (λ q. not (same_row P (read_row f r) q)) (first_places R rows)
       ∙ ap (map (read_row f)) (filter_agree_on (λ q. not (same_row P (read_row f r) (read_row f q))) (λ q. not (same_row R r q)) (first_places R rows)
-      (all_weaker (λ q. is_known_row known q ≡ true) (λ q. not (same_row P (read_row f r) (read_row f q)) ≡ not (same_row R r q)) (λ q kq. ap not (same_row-read r q all.0 kq)) (first_places R rows) (first_places_known rows all.1))))
+      (all_weaker (λ q. is_known_row known q ≡ true) (λ q. not (same_row P (read_row f r) (read_row f q)) ≡ not (same_row R r q)) (λ q kq. ap not (same_row-read r q all.0 kq)) (first_places R rows) (first_places_known known R rows all.1))))
 
   pub chosen_rows-read : (distinct : Bool) (rows : List (List (Option A))) → AllByRecursion (λ row. is_known_row known row ≡ true) rows → chosen_rows P distinct (map (read_row f) rows) ≡ map (read_row f) (chosen_rows R distinct rows)
   chosen_rows-read false rows all = refl

@@ -7,7 +7,7 @@ use Rattle.hypertrie_model.specs.Slices.{at}
 use Rattle.rdf_model.specs.Terms.{Term}
 use Rattle.rdf_model.specs.Texts.{canon}
 use Rattle.rdf_model.specs.Graph.{Graph}
-use Rattle.graph_shape.specs.GraphShapes.{terms_of}
+use Rattle.rdf_model.specs.GraphTerms.{terms_of}
 use Rattle.query_grammar.specs.Meaning.{Query, Pattern, Place, LabelAt, Const}
 use Rattle.bag_model.specs.Solutions.{assignments, row_of}
 use Rattle.solution_model.specs.Members.{members}

@@ -18,7 +18,8 @@ use Rattle.set_image.specs.Images.{image}
 use Rattle.set_image.specs.ImageLaws.{in_image, image_in}
 use Rattle.tuple_image.specs.TupleImages.{IsOver, IsOneToOneWhere}
 use Rattle.tuple_image.specs.TupleLaws.{over-slice}
-use Rattle.graph_shape.specs.GraphShapes.{tuple_of, tuples_of, terms_of}
+use Rattle.rdf_model.specs.GraphTerms.{terms_of}
+use Rattle.graph_shape.specs.GraphShapes.{tuple_of, tuples_of}
 use Rattle.query_grammar.specs.Meaning.{Query, Pattern, Place, LabelAt, Const}
 use Rattle.bag_model.specs.Answers as bag_answers
 use Rattle.bag_model.specs.AnswerLaws.{chosen-alike}

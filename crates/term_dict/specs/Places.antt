@@ -2,17 +2,17 @@
 use Rattle.std.specs.Prelude.{◌≡◌, ℕ, zero, suc, ◌+◌, List, map, length, Option, None, Some, is_some, count_by, slice_get, refl}
 use Rattle.std.specs.Coded.{Coded, code_by, coded×, coded_ℕ, coded_list, coded_option}
 use Rattle.rdf_model.specs.Terms.{Term, Iri, Blank, Literal, Typed, Tagged}
+use Rattle.rdf_model.specs.Texts.{xsd_string}
 use Rattle.rdf_model.specs.Graph.{coded_term}
 use Rattle.term_dict.specs.declared.place.Place.{Place}
 use Rattle.term_dict.specs.declared.place.Place.TheVariants as place
-use Rattle.term_dict.specs.declared.place.TheConstants.{XSD_STRING}
 
 -- the term in a place, if there is one
 abbrev pub term_in : Place → Option Term
 term_in (place.Vacant next) = None
 term_in (place.Iri text) = Some (Iri text)
 term_in (place.Blank label) = Some (Blank label)
-term_in (place.Plain form) = Some (Literal form (Typed XSD_STRING.now))
+term_in (place.Plain form) = Some (Literal form (Typed xsd_string))
 term_in (place.Typed texts) = Some (Literal texts.0 (Typed texts.1))
 term_in (place.Tagged texts) = Some (Literal texts.0 (Tagged texts.1))
 

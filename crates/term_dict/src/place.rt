@@ -4,13 +4,10 @@ ghost use Rattle.rdf_term.specs.Seen.{lent_term};
 ghost use Rattle.term_dict.specs.Places.{term_in};
 
 use crate::joined::Joined;
-use rdf_term::{KindRef, TermRef};
+use rdf_term::{KindRef, TermRef, XSD_STRING};
 use std::alloc::Global;
 use tn_io::Text;
 use trie_depth::Memory;
-
-/// The datatype that costs no text (RDF 1.1 Concepts, section 5.1).
-const XSD_STRING: &str = "http://www.w3.org/2001/XMLSchema#string";
 
 #[derive(Drop)]
 pub enum Place {

@@ -1,8 +1,6 @@
 use super::*;
-use rdf_term::{KindRef, TermRef};
+use rdf_term::{KindRef, TermRef, XSD_STRING};
 use trie_depth::{Id, Memory};
-
-const XSD_STRING: &str = "http://www.w3.org/2001/XMLSchema#string";
 
 /// `intern`, where there is an Id left.
 fn put(dict: &mut Dict, term: TermRef<'_>) -> Result<Id, Memory> {

@@ -2,7 +2,8 @@
 ghost use Rattle.std.specs.Prelude.{◌<◌};
 
 use super::{
-    Cut, Cutter, Lines, MemSink, MemSource, Out, PureSource, Sink, Source, Text, write_all,
+    Bytes, Cut, Cutter, Failed, Files, Lines, MemFiles, MemSink, MemSource, NullSink, Out,
+    PureFiles, PureSource, Sink, Source, Text, write_all,
 };
 use std::alloc::Global;
 use std::cmp::Ordering;
@@ -134,6 +135,67 @@ fn faults_at_each_call(rt: HostRuntime) -> Result<(), Memory> {
     assert_eq!(rt; pure.read(&mut piece), Ok(2));
     assert_eq!(rt; pure.read(&mut piece), Ok(1));
     assert_eq!(rt; pure.read(&mut piece), Ok(0));
+    let mut null = NullSink::new();
+    assert!(rt; write_all(&mut null, b"0123").is_ok() && null.write(b"456") == Ok(3));
+    assert!(rt; null.bytes() == 7);
+    Ok(())
+}
+
+// What reads with room for four bytes give, one after another; `!` for a failure.
+fn read_on<F: Files>(
+    alloc: Global,
+    files: &mut F,
+    name: &str,
+    start: u64,
+) -> Result<Vec<u8>, Memory> {
+    let mut read = Vec::new(alloc);
+    let mut at = start;
+    for _ in 0..5 {
+        let mut piece = [0; 4];
+        match files.read_at(name, at, &mut piece) {
+            Ok(count) => {
+                at = at.saturating_add(count as u64);
+                read.extend_from_slice(&piece[..count])?;
+                read.push(b'|')?;
+            }
+            Err(Failed) => read.push(b'!')?,
+        }
+    }
+    Ok(read)
+}
+
+// Two files, one of them empty, and a second entry of the first one's name.
+fn some_files(alloc: Global) -> Result<Vec<(Text, Bytes)>, Memory> {
+    let mut files = Vec::new(alloc);
+    let entries: [(&str, &[u8]); 3] = [("a.nt", b"abcde"), ("", b""), ("a.nt", b"xyz")];
+    for (name, bytes) in entries {
+        let bytes = Bytes::of(Vec::from_slice(alloc, bytes)?);
+        files.push((Text::of(alloc, name)?, bytes))?;
+    }
+    Ok(files)
+}
+
+#[test]
+fn files_at_places(rt: HostRuntime) -> Result<(), Memory> {
+    let rows: [(&str, u64, u64, &[u8], &[u8]); 8] = [
+        ("a.nt", 0, 1, b"!ab|cd|e||", b"abcd|e||||"),
+        ("a.nt", 0, 3, b"ab|cd|!e||", b"abcd|e||||"),
+        ("a.nt", 0, 5, b"ab|cd|e||!", b"abcd|e||||"),
+        ("a.nt", 4, 2, b"e|!|||", b"e|||||"),
+        ("a.nt", 5, 9, b"|||||", b"|||||"),
+        ("a.nt", u64::MAX, 9, b"|||||", b"|||||"),
+        ("", 0, 9, b"|||||", b"|||||"),
+        ("a.n", 0, 1, b"!!!!!", b"!!!!!"),
+    ];
+    for (name, start, fails, in_pieces, whole) in rows {
+        let files = some_files(rt.alloc())?;
+        let mut files = MemFiles::new(files, 2, vec![in rt.alloc(); fails]?);
+        let read = read_on(rt.alloc(), &mut files, name, start)?;
+        assert_eq!(rt; read.as_slice(), in_pieces);
+        let mut files = PureFiles::new(some_files(rt.alloc())?);
+        let read = read_on(rt.alloc(), &mut files, name, start)?;
+        assert_eq!(rt; read.as_slice(), whole);
+    }
     Ok(())
 }
 

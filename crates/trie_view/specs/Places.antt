@@ -62,6 +62,10 @@ IsFormed mixed t There = Unit {0}
 abbrev pub HasIds : IdSet → Type 0
 HasIds H = (u : List ℕ) → has H u ≡ true → IsIdTuple u
 
+-- the tables are kept, by whatever mix of hashes
+abbrev pub AreKeptByAMix : Tables → Type 0
+AreKeptByAMix t = ∥ ((mixed : ℕ → ℕ → ℕ → ℕ → ℕ) × AreKept mixed t) ∥₁
+
 -- the place is one of kept tables
 pub record IsSub (t : Tables) (place : Place) : Type 0 where
   pub mixed : ℕ → ℕ → ℕ → ℕ → ℕ

@@ -11,8 +11,7 @@ ghost use Rattle.trie_node.specs.Sets.{map_at};
 ghost use Rattle.trie_context.specs.declared.root.Root.{Root};
 ghost use Rattle.trie_context.specs.Rows.{row_of};
 ghost use Rattle.trie_context.specs.Roots.{root_set};
-ghost use Rattle.trie_context.specs.Kept.{AreKept};
-ghost use Rattle.trie_view.specs.Places.{IsSub, IsPlaceOf, IsPairsOf, IsRootThere, AreKeysAt, edge_at};
+ghost use Rattle.trie_view.specs.Places.{AreKeptByAMix, IsSub, IsPlaceOf, IsPairsOf, IsRootThere, AreKeysAt, edge_at};
 
 use crate::place::{KeysAt, Place};
 use edge_map::{Edge, EdgeMap};
@@ -35,7 +34,7 @@ impl<'a> Sub<'a> {
 
     /// The whole graph; an empty one has no slice.
     pub fn of(tables: &'a Tables, root: &'a Root) -> Option<Sub<'a>>
-        requires kept { (mixed : ℕ → ℕ → ℕ → ℕ → ℕ) × AreKept mixed tables.now }
+        requires kept { AreKeptByAMix tables.now }
         requires there { IsRootThere tables.now root.now }
         ensures none { IsNone result ↔ (root.now ≡ Root.Empty) }
         ensures set { IfSome result (λ s. sub_set s ≡ root_set tables.now root.now) }

@@ -7,7 +7,7 @@ ghost use Rattle.trie_context.specs.Roots.{IsHeld};
 ghost use Rattle.trie_update.specs.Batches.{IsOnce};
 ghost use Rattle.trie_view.specs.Subs.{sub_depth};
 
-use crate::reads::{AtMask, at_masks};
+use crate::reads::{AtMask, Slice, at_masks};
 use key_join::{ListOp, next_common};
 use std::alloc::Global;
 use std::marker::Brand;
@@ -17,7 +17,25 @@ use trie_depth::{ConstMix, Id, Mask, Memory, Mix, SplitMix, Steps, Trip};
 use trie_update::grow;
 use trie_view::Sub;
 
-fn at(fixed: [Option<usize>; 3], count: u64, least: Option<Id>, after_zero: Option<Id>) -> AtMask {
+/// A slice of pairs, and one of keys: with the keys at its first position.
+fn pairs(firsts: [bool; 3]) -> Option<Slice> {
+    Some(Slice { depth: 2, firsts })
+}
+
+fn keys(firsts: [bool; 3]) -> Option<Slice> {
+    Some(Slice { depth: 1, firsts })
+}
+
+const ZERO: [bool; 3] = [true, false, false];
+
+const ZERO_AND_ONE: [bool; 3] = [true, true, false];
+
+const THERE: Option<Slice> = Some(Slice {
+    depth: 0,
+    firsts: [false, false, false],
+});
+
+fn at(fixed: [Option<Slice>; 3], count: u64, least: Option<Id>, after_zero: Option<Id>) -> AtMask {
     AtMask {
         fixed,
         count,
@@ -25,16 +43,17 @@ fn at(fixed: [Option<usize>; 3], count: u64, least: Option<Id>, after_zero: Opti
     }
 }
 
-/// What the graph has at the masks 1 to 7.
+/// What the graph has at the masks 1 to 7. At two positions, subject and object have the predicates 0 and 1.
 fn expected() -> [AtMask; 7] {
+    let zero = Some(Id(0));
     [
-        at([Some(2), None, None], 1, Some(Id(0)), None),
-        at([Some(2), Some(2), None], 2, Some(Id(0)), Some(Id(1))),
-        at([Some(1), None, None], 1, Some(Id(0)), None),
-        at([Some(2), None, Some(2)], 2, Some(Id(0)), Some(Id(2))),
-        at([Some(1), None, None], 1, Some(Id(0)), None),
-        at([Some(1), None, None], 2, Some(Id(0)), None),
-        at([Some(0), None, None], 1, Some(Id(0)), None),
+        at([pairs(ZERO_AND_ONE), None, None], 1, zero, None),
+        at([pairs(ZERO), pairs(ZERO), None], 2, zero, Some(Id(1))),
+        at([keys(ZERO), None, None], 1, zero, None),
+        at([pairs(ZERO), None, pairs(ZERO)], 2, zero, Some(Id(2))),
+        at([keys(ZERO_AND_ONE), None, None], 1, zero, None),
+        at([keys(ZERO), None, None], 2, zero, None),
+        at([THERE, None, None], 1, zero, None),
     ]
 }
 

@@ -9,8 +9,8 @@ use Rattle.hypertrie_model.specs.Members.{contains-kept, no_members}
 use Rattle.rdf_model.specs.Terms.{Triple}
 use Rattle.rdf_model.specs.Graph.{Graph, term_cmp, terms_total, exact_terms, triples_total, exact_triples}
 use Rattle.set_image.specs.OneToOneLaws.{len-image}
-use Rattle.graph_shape.specs.Sorting.{sorted_texts}
-use Rattle.graph_shape.specs.MemberLaws.{members_in_order}
+use Rattle.rdf_model.specs.Sorting.{sorted_texts}
+use Rattle.rdf_model.specs.MemberLaws.{members_in_order}
 use Rattle.graph_shape.specs.GraphShapes.{tuple_of, tuples_of, row_line, has_line, line_rows, shape_lines}
 use Rattle.graph_shape.proofs.small_graphs_have_no_lines.Goals as goal
 

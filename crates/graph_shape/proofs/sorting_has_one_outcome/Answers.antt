@@ -4,7 +4,7 @@ use Rattle.std.specs.FinSet.{slice_cmp-IsAntisymmetric}
 use Rattle.hypertrie_model.specs.ShapeRows.{rows_total, rows_exact}
 use Rattle.rdf_model.specs.Graph.{terms_total, exact_terms}
 use Rattle.graph_shape.specs.GraphShapes.{member_text, tabbed, depth_name, row_line, line_rows, shape_lines}
-use Rattle.graph_shape.specs.MemberLaws.{members_sorted}
+use Rattle.rdf_model.specs.MemberLaws.{members_sorted}
 use Rattle.graph_shape.proofs.sorting_has_one_outcome.Goals as goal
 
 pub returns-clause-lines : goal.returns-clause-lines

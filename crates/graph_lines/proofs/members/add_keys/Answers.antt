@@ -3,7 +3,8 @@ use Rattle.std.specs.Ordering.{nat_cmp}
 use Rattle.hypertrie_model.specs.Sets.{single}
 use Rattle.rdf_model.specs.Terms.{Text}
 use Rattle.rdf_term.specs.Seen.{lent_term}
-use Rattle.graph_lines.specs.Walks.{has_id, key_set, member_behind}
+use Rattle.graph_view.specs.Read.{has_id}
+use Rattle.graph_lines.specs.Walks.{key_set, member_behind}
 use Rattle.graph_lines.proofs.WalkLemmas.{walked_none}
 use Rattle.graph_lines.proofs.MapLemmas.{map_done, map_next}
 use Rattle.graph_lines.proofs.MemberLemmas.{added_single, key_text, map_key_known, single_some}

@@ -1,7 +1,7 @@
 use Rattle.std.proofs.Common.{◌≡◌, ◌++◌, ◌∙◌, ap, codes, decimal}
 use Rattle.rdf_model.specs.Terms.{Text}
 use Rattle.graph_shape.specs.GraphShapes.{depth_name, tabbed}
-use Rattle.graph_shape.specs.SortLaws.{sorted_is}
+use Rattle.rdf_model.specs.SortLaws.{sorted_is}
 use Rattle.graph_lines.proofs.row_lines.line_of.Goals as goal
 
 pub returns : goal.returns

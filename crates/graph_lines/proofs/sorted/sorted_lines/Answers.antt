@@ -1,6 +1,6 @@
 use Rattle.std.proofs.Common.{◌≡◌, List, IfOk, subst}
 use Rattle.rdf_model.specs.Terms.{Text}
-use Rattle.graph_shape.specs.SortLaws.{sorted_is}
+use Rattle.rdf_model.specs.SortLaws.{sorted_is}
 use Rattle.graph_lines.proofs.sorted.sorted_lines.Goals as goal
 
 pub returns-clause-order : goal.returns-clause-order

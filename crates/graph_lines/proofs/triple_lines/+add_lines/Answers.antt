@@ -5,7 +5,8 @@ use Rattle.hypertrie_model.specs.Slices.{slice_at_mask}
 use Rattle.tuple_image.specs.TupleImages.{IsOver}
 use Rattle.rdf_model.specs.Terms.{Text}
 use Rattle.rdf_term.specs.Seen.{lent_term}
-use Rattle.graph_lines.specs.Walks.{has_id, line_behind}
+use Rattle.graph_view.specs.Read.{has_id}
+use Rattle.graph_lines.specs.Walks.{line_behind}
 use Rattle.graph_lines.proofs.WalkLemmas.{walked_none, added_nil}
 use Rattle.graph_lines.proofs.OperandLemmas.{first_fits, line_under, key_known, rest_known, operand_done, operand_ids, operand_next}
 use Rattle.graph_lines.proofs.triple_lines.+add_lines.Goals as goal

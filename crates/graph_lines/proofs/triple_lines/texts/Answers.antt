@@ -2,8 +2,9 @@ use Rattle.std.proofs.Common.{sym, subst}
 use Rattle.std.specs.Ordering.{nat_cmp}
 use Rattle.hypertrie_model.specs.Sets.{empty}
 use Rattle.graph_image.specs.Images.{graph_of, AreKnown}
-use Rattle.graph_lines.specs.Walks.{set_in}
-use Rattle.graph_lines.proofs.DumpLemmas.{HasLines, known_ids, lines_read, no_lines}
+use Rattle.graph_view.specs.Read.{set_in}
+use Rattle.graph_view.specs.ReadLaws.{known_ids}
+use Rattle.graph_lines.proofs.DumpLemmas.{HasLines, lines_read, no_lines}
 use Rattle.graph_lines.proofs.triple_lines.texts.Goals as goal
 
 pub add_lines-requires-clause-known : goal.add_lines-requires-clause-known

@@ -1,8 +1,9 @@
 use Rattle.std.proofs.Common.{◌≡◌, ◌∙◌, true, false, IsSome, sym, subst, take, get_or, ◌++◌, ◌∷◌, []}
 use Rattle.std.proofs.lemmas.List.{take_all}
 use Rattle.trie_depth.specs.declared.id.Id.{Id}
-use Rattle.trie_context.specs.Roots.{root_set}
+use Rattle.trie_view.specs.Subs.{sub_set}
 use Rattle.graph_image.specs.Images.{IsUsed}
+use Rattle.graph_view.specs.Read.{set_in}
 use Rattle.graph_store.specs.Staging.{numbers}
 use Rattle.graph_store.specs.Forgotten.{Forgets}
 use Rattle.graph_store.proofs.NotedLemmas.{here, new_to_before, numbers_next}
@@ -11,7 +12,7 @@ use Rattle.graph_store.proofs.taken.forget.Goals as goal
 use Rattle.graph_store.proofs.taken.forget.Goals.{then-not-is_used, else-not-is_used}
 
 pub loop-id-init : goal.loop-id-init
-loop-id-init c = forgets_none c.args.dict.now (IsUsed (root_set c.args.tables.now c.args.root.now))
+loop-id-init c = forgets_none c.args.dict.now (IsUsed (set_in sub_set c.args.left))
 
 pub remove-requires : goal.remove-requires
 remove-requires c =
@@ -26,7 +27,7 @@ loop-id-preserved c =
     let none : Id = record { 0 = 0 } in
     let ids = c.args.ids.now in
     let n = c.loop-id.id-index in
-    let Used = IsUsed (root_set c.args.tables.now c.args.root.now) in
+    let Used = IsUsed (set_in sub_set c.args.left) in
     let id = (get_or ids n none).0 in
     let next = numbers_next c.args.dict.now ids c.requires.there c.requires.once n none c.loop-id-test.true in
     elim c.if-not-is_used.branch [
@@ -41,4 +42,4 @@ loop-id-preserved c =
     ]
 
 pub returns : goal.returns
-returns c = subst (λ l. Forgets c.args.dict.now c.loop-id.dict (numbers l) (IsUsed (root_set c.args.tables.now c.args.root.now))) (take_all c.loop-id.id-index c.args.ids.now c.loop-id-test.false) c.loop-id.invariant
+returns c = subst (λ l. Forgets c.args.dict.now c.loop-id.dict (numbers l) (IsUsed (set_in sub_set c.args.left))) (take_all c.loop-id.id-index c.args.ids.now c.loop-id-test.false) c.loop-id.invariant

@@ -1,6 +1,6 @@
 use Rattle.std.proofs.Common.{◌∙◌, ap, Some, []}
-use Rattle.ntriples.specs.Lent.{lent_triple, lent_triples}
-use Rattle.graph_store.specs.ProperLaws.{proper_line}
+use Rattle.rdf_term.specs.Seen.{lent_triple, lent_triples}
+use Rattle.ntriples_model.specs.ProperLaws.{proper_line}
 use Rattle.graph_store.proofs.tests.stage_line.Goals as goal
 
 pub stage-requires-clause-proper : goal.stage-requires-clause-proper

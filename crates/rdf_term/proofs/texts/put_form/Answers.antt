@@ -1,4 +1,5 @@
 use Rattle.std.proofs.Common.{rules, ◌∙◌, ◌++◌, sym, ap, append_assoc, arith}
+use Rattle.tn_io.proofs.KnownLemmas.{begins_trans}
 use Rattle.rdf_term.proofs.EscapedLemmas.{cut_run, cut_some}
 use Rattle.rdf_term.proofs.PutLemmas.{begins_part, put_more, on_err}
 use Rattle.rdf_term.specs.Escapes.{form_text}
@@ -37,4 +38,5 @@ loop-escape-preserved g c =
         so_far.2 ∙ ap (λ w. so_far.0 ++ w) (cut.text ∙ ap (λ w. w ++ (c.in-Some.escape.now ++ z)) (sym c.as_bytes.ensures.value) ∙ ap (λ w. x ++ (w ++ z)) (sym c.as_bytes-in-loop-escape.ensures.value) ∙ sym (append_assoc x y z))
             ∙ sym (append_assoc so_far.0 (x ++ y) z),
       ),
+      begins_trans _ _ _ c.loop-escape.invariant.4 (begins_trans _ _ _ c.in_ok-put.ensures.grows c.in_ok-put-2.ensures.grows),
     )

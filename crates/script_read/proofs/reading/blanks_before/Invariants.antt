@@ -1,5 +1,5 @@
 use Rattle.std.proofs.Common.{◌≡◌, drop}
-use Rattle.script_model.specs.Commands.{after_blanks}
+use Rattle.text_lines.specs.Blanks.{after_blanks}
 use Rattle.script_read.proofs.reading.blanks_before.Given as goal
 
 abbrev pub invariant-loop-i : goal.invariant-loop-i

@@ -1,7 +1,7 @@
 use Rattle.std.proofs.Common.{◌∙◌, ap}
 use Rattle.std.specs.Prelude.{Some}
 use Rattle.script_model.specs.Commands as script
-use Rattle.ntriples.specs.Lent.{lent_triple, lent_triples}
+use Rattle.rdf_term.specs.Seen.{lent_triple, lent_triples}
 use Rattle.tentris_core.proofs.BatchLemmas.{bad_line, note_marked, triple_marked}
 use Rattle.tentris_core.proofs.batch.mark.Goals as goal
 

@@ -3,8 +3,8 @@ use Rattle.std.specs.Prelude.{Some, Err}
 use Rattle.script_model.specs.Commands as script
 use Rattle.ntriples_model.proofs.Lines.{lines_are_productions}
 use Rattle.ntriples_model.proofs.TermTexts.{texts_stand}
-use Rattle.graph_store.specs.ProperLaws.{proper_line}
-use Rattle.ntriples.specs.Lent.{lent_triple, lent_triples}
+use Rattle.ntriples_model.specs.ProperLaws.{proper_line}
+use Rattle.rdf_term.specs.Seen.{lent_triple, lent_triples}
 use Rattle.tentris_core.proofs.BatchLemmas.{bad_line, note_full, note_staged, triple_full, triple_staged}
 use Rattle.tentris_core.proofs.batch.stage.Goals as goal
 

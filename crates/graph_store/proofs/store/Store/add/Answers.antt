@@ -1,11 +1,9 @@
 use Rattle.std.proofs.Common.{◌≡◌, ◌∙◌, ◌+◌, ◌<◌, false, true, refl, sym, ap, subst, arith, if◌then◌else◌}
 use Rattle.std.specs.FinSet as set
 use Rattle.hypertrie_model.specs.Sets.{has}
-use Rattle.ntriples.specs.Lent.{lent_triple}
+use Rattle.rdf_term.specs.Seen.{lent_triple}
 use Rattle.trie_depth.specs.Tuples.{trip_tuple}
-use Rattle.trie_context.specs.Kept.{AreKept}
 use Rattle.trie_context.specs.Roots.{root_set}
-use Rattle.trie_view.specs.Places.{IsRootThere}
 use Rattle.graph_image.specs.Images.{graph_of}
 use Rattle.graph_store.specs.State.{State, graph, most_triples}
 use Rattle.graph_store.specs.Staging.{Staging, numbers, staged_graph, Fits, before}
@@ -23,16 +21,19 @@ intern_triple-requires g c =
     let few = terms_few i.dict i.ctx i.root i.max b c.self.invariant f c.len.ensures.one in
     record { room = omega (arith, few) }
 
-pub has_triple-requires-clause-kept : goal.has_triple-requires-clause-kept
-has_triple-requires-clause-kept g c =
-    (g.M.Mix.mixed, subst (AreKept g.M.Mix.mixed) (sym c.tables.ensures.same) c.tables.ensures.kept)
+pub of-requires-clause-there : goal.of-requires-clause-there
+of-requires-clause-there g c = root_there c.self.inside.ctx c.self.inside.root c.self.invariant.only
 
-pub has_triple-requires-clause-there : goal.has_triple-requires-clause-there
-has_triple-requires-clause-there g c =
-    subst (λ t. IsRootThere t c.self.inside.root) (sym c.tables.ensures.same) (root_there c.self.inside.ctx c.self.inside.root c.self.invariant.only)
+pub of-requires-clause-known : goal.of-requires-clause-known
+of-requires-clause-known g c =
+    let i = c.self.inside in
+    let s : State = record { dict = i.dict; tables = i.ctx; root = i.root; max = i.max } in
+    let b : Staging = record { triples = c.staged.inside.trips; added = numbers c.staged.inside.added.items } in
+    let f : Fits s b = fits_back c.args.self.now s c.args.staged.now b c.self.view_is c.staged.view_is c.requires.fits in
+    (grown_sound i.dict i.ctx i.root i.max b c.self.invariant f c.staged.inside.added.items c.intern_triple.new.noted.items refl c.intern_triple.new.dict c.in_ok-trip.ensures.grows).known
 
-pub invariant_of-self-then-has_triple : goal.invariant_of-self-then-has_triple
-invariant_of-self-then-has_triple g c =
+pub invariant_of-self-then-has : goal.invariant_of-self-then-has
+invariant_of-self-then-has g c =
     let i = c.self.inside in
     let s : State = record { dict = i.dict; tables = i.ctx; root = i.root; max = i.max } in
     let b : Staging = record { triples = c.staged.inside.trips; added = numbers c.staged.inside.added.items } in
@@ -43,8 +44,8 @@ invariant_of-self-then-has_triple g c =
     let grows = c.in_ok-trip.ensures.grows in
     grown_sound i.dict i.ctx i.root i.max b c.self.invariant f noted more refl e grows
 
-pub returns-then-has_triple-clause-graph : goal.returns-then-has_triple-clause-graph
-returns-then-has_triple-clause-graph g c =
+pub returns-then-has-clause-graph : goal.returns-then-has-clause-graph
+returns-then-has-clause-graph g c =
     let i = c.self.inside in
     let s : State = record { dict = i.dict; tables = i.ctx; root = i.root; max = i.max } in
     let b : Staging = record { triples = c.staged.inside.trips; added = numbers c.staged.inside.added.items } in
@@ -55,8 +56,8 @@ returns-then-has_triple-clause-graph g c =
     let grows = c.in_ok-trip.ensures.grows in
     grown_graph i.dict i.ctx i.root i.max b c.self.invariant f noted more refl e grows ∙ ap graph c.self.view_is
 
-pub returns-then-has_triple-clause-before : goal.returns-then-has_triple-clause-before
-returns-then-has_triple-clause-before g c =
+pub returns-then-has-clause-before : goal.returns-then-has-clause-before
+returns-then-has-clause-before g c =
     let i = c.self.inside in
     let s : State = record { dict = i.dict; tables = i.ctx; root = i.root; max = i.max } in
     let b : Staging = record { triples = c.staged.inside.trips; added = numbers c.staged.inside.added.items } in
@@ -68,8 +69,8 @@ returns-then-has_triple-clause-before g c =
     let same : before (record { dict = e; tables = i.ctx; root = i.root; max = i.max }) (record { triples = b.triples; added = numbers more }) ≡ before s b = λ j. record { dict = same_before i.dict i.ctx i.root i.max b c.self.invariant f noted more refl e grows j; tables = i.ctx; root = i.root; max = i.max } in
     same ∙ (λ j. before (c.self.view_is j) (c.staged.view_is j))
 
-pub returns-then-has_triple-clause-fits : goal.returns-then-has_triple-clause-fits
-returns-then-has_triple-clause-fits g c =
+pub returns-then-has-clause-fits : goal.returns-then-has-clause-fits
+returns-then-has-clause-fits g c =
     let i = c.self.inside in
     let s : State = record { dict = i.dict; tables = i.ctx; root = i.root; max = i.max } in
     let b : Staging = record { triples = c.staged.inside.trips; added = numbers c.staged.inside.added.items } in
@@ -79,11 +80,11 @@ returns-then-has_triple-clause-fits g c =
     let more = c.intern_triple.new.noted.items in
     let grows = c.in_ok-trip.ensures.grows in
     let t = lent_triple c.args.triple in
-    let there : has (root_set i.ctx i.root) (trip_tuple c.in_ok-trip.trip) ≡ true = sym (c.has_triple.ensures ∙ ap (λ u. has (root_set u i.root) (trip_tuple c.in_ok-trip.trip)) c.tables.ensures.same) ∙ c.if-has_triple.true in
+    let there : has (root_set i.ctx i.root) (trip_tuple c.in_ok-trip.trip) ≡ true = sym (c.has.ensures ∙ (λ j. has (root_set (c.of.ensures.tables j) (c.of.ensures.root j)) (trip_tuple c.in_ok-trip.trip))) ∙ c.if-has.true in
     fits_there i.dict i.ctx i.root i.max b c.self.invariant f noted more refl e grows t c.in_ok-trip.trip c.in_ok-trip.ensures.ids c.in_ok-trip.ensures.terms there
 
-pub returns-then-has_triple-clause-staged : goal.returns-then-has_triple-clause-staged
-returns-then-has_triple-clause-staged g c =
+pub returns-then-has-clause-staged : goal.returns-then-has-clause-staged
+returns-then-has-clause-staged g c =
     let i = c.self.inside in
     let s : State = record { dict = i.dict; tables = i.ctx; root = i.root; max = i.max } in
     let b : Staging = record { triples = c.staged.inside.trips; added = numbers c.staged.inside.added.items } in
@@ -93,7 +94,7 @@ returns-then-has_triple-clause-staged g c =
     let more = c.intern_triple.new.noted.items in
     let grows = c.in_ok-trip.ensures.grows in
     let t = lent_triple c.args.triple in
-    let there : has (root_set i.ctx i.root) (trip_tuple c.in_ok-trip.trip) ≡ true = sym (c.has_triple.ensures ∙ ap (λ u. has (root_set u i.root) (trip_tuple c.in_ok-trip.trip)) c.tables.ensures.same) ∙ c.if-has_triple.true in
+    let there : has (root_set i.ctx i.root) (trip_tuple c.in_ok-trip.trip) ≡ true = sym (c.has.ensures ∙ (λ j. has (root_set (c.of.ensures.tables j) (c.of.ensures.root j)) (trip_tuple c.in_ok-trip.trip))) ∙ c.if-has.true in
     let G = graph_of i.dict (root_set i.ctx i.root) in
     let S = graph_of i.dict b.triples in
     grown_staged i.dict i.ctx i.root i.max b c.self.invariant f noted more refl e grows
@@ -148,7 +149,7 @@ returns-clause-fits g c =
     let more = c.intern_triple.new.noted.items in
     let grows = c.in_ok-trip.ensures.grows in
     let t = lent_triple c.args.triple in
-    let absent : has (root_set i.ctx i.root) (trip_tuple c.in_ok-trip.trip) ≡ false = sym (c.has_triple.ensures ∙ ap (λ u. has (root_set u i.root) (trip_tuple c.in_ok-trip.trip)) c.tables.ensures.same) ∙ c.if-has_triple.false in
+    let absent : has (root_set i.ctx i.root) (trip_tuple c.in_ok-trip.trip) ≡ false = sym (c.has.ensures ∙ (λ j. has (root_set (c.of.ensures.tables j) (c.of.ensures.root j)) (trip_tuple c.in_ok-trip.trip))) ∙ c.if-has.false in
     let room : set.len (graph s) + set.len (staged_graph s b) < most_triples =
     subst (λ x. set.len (graph x) + set.len (staged_graph x b) < most_triples) (sym c.self.view_is) (subst (λ y. set.len (graph c.args.self.now) + set.len (staged_graph c.args.self.now y) < most_triples) (sym c.staged.view_is) c.requires.room) in
     subst (λ T. Fits (record { dict = e; tables = i.ctx; root = i.root; max = i.max }) (record { triples = T; added = numbers more })) (sym c.in_default.ensures.ok)
@@ -165,12 +166,12 @@ returns-clause-staged g c =
     let more = c.intern_triple.new.noted.items in
     let grows = c.in_ok-trip.ensures.grows in
     let t = lent_triple c.args.triple in
-    let absent : has (root_set i.ctx i.root) (trip_tuple c.in_ok-trip.trip) ≡ false = sym (c.has_triple.ensures ∙ ap (λ u. has (root_set u i.root) (trip_tuple c.in_ok-trip.trip)) c.tables.ensures.same) ∙ c.if-has_triple.false in
+    let absent : has (root_set i.ctx i.root) (trip_tuple c.in_ok-trip.trip) ≡ false = sym (c.has.ensures ∙ (λ j. has (root_set (c.of.ensures.tables j) (c.of.ensures.root j)) (trip_tuple c.in_ok-trip.trip))) ∙ c.if-has.false in
     let G = graph_of i.dict (root_set i.ctx i.root) in
     let S = graph_of i.dict b.triples in
     let not_there : set.contains G t ≡ false =
     ap (λ K. set.contains K t) (sym (grown_graph i.dict i.ctx i.root i.max b c.self.invariant f noted more refl e grows))
-    ∙ sym (found_triple e t c.in_ok-trip.trip c.in_ok-trip.ensures.ids c.len-2.ensures.one (root_set i.ctx i.root) (grown_sound i.dict i.ctx i.root i.max b c.self.invariant f noted more refl e grows).known) ∙ absent in
+    ∙ sym (found_triple e t c.in_ok-trip.trip c.in_ok-trip.ensures.ids c.of.ensures.one (root_set i.ctx i.root) (grown_sound i.dict i.ctx i.root i.max b c.self.invariant f noted more refl e grows).known) ∙ absent in
     ap (graph_of e) c.in_default.ensures.ok
     ∙ staged_graph_is i.dict i.ctx i.root i.max b c.self.invariant f noted more refl e grows t c.in_ok-trip.trip c.in_ok-trip.ensures.ids c.in_ok-trip.ensures.terms
     ∙ sym (ap (λ x. if x then S else set.insert S t) not_there)

@@ -7,12 +7,14 @@ use Rattle.trie_context.specs.Kept.{AreKept}
 use Rattle.trie_context.specs.Roots.{root_set}
 use Rattle.trie_update.specs.Batches.{set_of_entries}
 use Rattle.trie_view.specs.Places.{IsRootThere}
+use Rattle.trie_view.specs.Subs.{sub_set}
+use Rattle.graph_view.specs.Read.{set_in}
 use Rattle.graph_image.specs.Images.{graph_of, terms_of, HasExactly, is_among, IsUsed}
 use Rattle.graph_image.specs.ImageLaws.{len-graph_of, known_difference}
 use Rattle.graph_store.specs.State.{graph, triples_of}
 use Rattle.graph_store.specs.Staging.{numbers, marked_graph}
 use Rattle.graph_store.specs.Forgotten.{Forgets}
-use Rattle.graph_store.proofs.RootLemmas.{root_there}
+use Rattle.graph_store.proofs.RootLemmas.{root_there, operand_set}
 use Rattle.graph_store.proofs.ForgetLemmas.{marked_known, rest_graph, deleted_graph, deleted_settled, deleted_sound}
 use Rattle.graph_store.proofs.store.Store.delete.Goals as goal
 
@@ -26,21 +28,32 @@ returns-in_err-take_out-clause-ticks g c =
     let batch = ap set.len (ap (set_of_entries trip_tuple) c.deref-2.ensures.value ∙ c.in_ok-batch.ensures.set) in
     omega (arith, c.take_out.ensures.ticks, marked, batch)
 
-pub forget-requires-clause-kept : goal.forget-requires-clause-kept
-forget-requires-clause-kept g c =
-    (g.M.Mix.mixed, subst (AreKept g.M.Mix.mixed) (sym c.tables.ensures.same) c.tables.ensures.kept)
+pub of-left-requires-clause-kept : goal.of-left-requires-clause-kept
+of-left-requires-clause-kept g c = ∣ (g.M.Mix.mixed, subst (AreKept g.M.Mix.mixed) (sym c.tables.ensures.same) c.tables.ensures.kept) ∣₁
 
-pub forget-requires-clause-root : goal.forget-requires-clause-root
-forget-requires-clause-root g c =
-    subst (λ t. IsRootThere t c.take_out.new.root) (sym c.tables.ensures.same) (root_there c.take_out.new.context c.take_out.new.root c.take_out.ensures.only)
+pub of-left-requires-clause-there : goal.of-left-requires-clause-there
+of-left-requires-clause-there g c = subst (λ t. IsRootThere t c.take_out.new.root) (sym c.tables.ensures.same) (root_there c.take_out.new.context c.take_out.new.root c.take_out.ensures.only)
 
-pub count-requires-clause-kept : goal.count-requires-clause-kept
-count-requires-clause-kept g c =
-    (g.M.Mix.mixed, subst (AreKept g.M.Mix.mixed) (sym c.tables-2.ensures.same) c.tables-2.ensures.kept)
+pub of-requires-clause-there : goal.of-requires-clause-there
+of-requires-clause-there g c = root_there c.take_out.new.context c.take_out.new.root c.take_out.ensures.only
 
-pub count-requires-clause-there : goal.count-requires-clause-there
-count-requires-clause-there g c =
-    subst (λ t. IsRootThere t c.take_out.new.root) (sym c.tables-2.ensures.same) (root_there c.take_out.new.context c.take_out.new.root c.take_out.ensures.only)
+pub of-requires-clause-known : goal.of-requires-clause-known
+of-requires-clause-known g c =
+    let i = c.self.inside in
+    let B : IdSet = c.taken.inside.trips in
+    let settled : HasExactly i.dict (terms_of (graph_of i.dict (root_set i.ctx i.root))) = subst (λ s. HasExactly s.dict (terms_of (graph s))) (sym c.self.view_is) c.requires.settled in
+    let there : IsChange false (root_set i.ctx i.root) B = subst (λ s. IsChange false (triples_of s) B) (sym c.self.view_is) (subst (λ T. IsChange false (triples_of c.args.self.now) T) (sym c.taken.view_is) c.requires.there) in
+    let ids = numbers c.in_ok-ids.ids.items in
+    let u = c.take_out.new.context in
+    let q = c.take_out.new.root in
+    let new = c.forget.new.dict in
+    let whole : set_of_entries trip_tuple c.deref.result.now ≡ B = ap (set_of_entries trip_tuple) c.deref.ensures.value ∙ c.in_ok-batch.ensures.set in
+    let all : (id : ℕ) → IsUsed B id → is_among ids id ≡ true = λ id used. c.in_ok-ids.ensures.used id (subst (λ T. IsUsed T id) (sym whole) used) in
+    let left : root_set u q ≡ set.difference (root_set i.ctx i.root) B = c.in_ok-take_out.ensures.set ∙ ap (set.difference (root_set i.ctx i.root)) (ap (set_of_entries trip_tuple) c.deref-2.ensures.value ∙ c.in_ok-batch.ensures.set) in
+    let forgets : Forgets i.dict new ids (IsUsed (set.difference (root_set i.ctx i.root) B)) =
+    subst (λ K. Forgets i.dict new ids (IsUsed K)) (operand_set c.tables.result.now q c.of-left.result c.of-left.ensures.none c.of-left.ensures.set ∙ ap (λ t. root_set t q) c.tables.ensures.same ∙ left)
+    (subst (λ l. Forgets i.dict new (numbers l) (IsUsed (set_in sub_set c.of-left.result))) c.deref-3.ensures.value c.forget.ensures) in
+    (deleted_sound i.dict i.ctx i.root i.max B c.self.invariant c.len.ensures.one settled there ids all new forgets u q c.take_out.ensures.only left).known
 
 pub invariant_of-self-2 : goal.invariant_of-self-2
 invariant_of-self-2 g c =
@@ -56,8 +69,8 @@ invariant_of-self-2 g c =
     let all : (id : ℕ) → IsUsed B id → is_among ids id ≡ true = λ id used. c.in_ok-ids.ensures.used id (subst (λ T. IsUsed T id) (sym whole) used) in
     let left : root_set u q ≡ set.difference (root_set i.ctx i.root) B = c.in_ok-take_out.ensures.set ∙ ap (set.difference (root_set i.ctx i.root)) (ap (set_of_entries trip_tuple) c.deref-2.ensures.value ∙ c.in_ok-batch.ensures.set) in
     let forgets : Forgets i.dict new ids (IsUsed (set.difference (root_set i.ctx i.root) B)) =
-    subst (λ K. Forgets i.dict new ids (IsUsed K)) (ap (λ t. root_set t q) c.tables.ensures.same ∙ left)
-    (subst (λ l. Forgets i.dict new (numbers l) (IsUsed (root_set c.tables.result.now q))) c.deref-3.ensures.value c.forget.ensures) in
+    subst (λ K. Forgets i.dict new ids (IsUsed K)) (operand_set c.tables.result.now q c.of-left.result c.of-left.ensures.none c.of-left.ensures.set ∙ ap (λ t. root_set t q) c.tables.ensures.same ∙ left)
+    (subst (λ l. Forgets i.dict new (numbers l) (IsUsed (set_in sub_set c.of-left.result))) c.deref-3.ensures.value c.forget.ensures) in
     deleted_sound i.dict i.ctx i.root i.max B c.self.invariant c.len.ensures.one settled there ids all new forgets u q c.take_out.ensures.only left
 
 pub returns-clause-graph : goal.returns-clause-graph
@@ -74,8 +87,8 @@ returns-clause-graph g c =
     let all : (id : ℕ) → IsUsed B id → is_among ids id ≡ true = λ id used. c.in_ok-ids.ensures.used id (subst (λ T. IsUsed T id) (sym whole) used) in
     let left : root_set u q ≡ set.difference (root_set i.ctx i.root) B = c.in_ok-take_out.ensures.set ∙ ap (set.difference (root_set i.ctx i.root)) (ap (set_of_entries trip_tuple) c.deref-2.ensures.value ∙ c.in_ok-batch.ensures.set) in
     let forgets : Forgets i.dict new ids (IsUsed (set.difference (root_set i.ctx i.root) B)) =
-    subst (λ K. Forgets i.dict new ids (IsUsed K)) (ap (λ t. root_set t q) c.tables.ensures.same ∙ left)
-    (subst (λ l. Forgets i.dict new (numbers l) (IsUsed (root_set c.tables.result.now q))) c.deref-3.ensures.value c.forget.ensures) in
+    subst (λ K. Forgets i.dict new ids (IsUsed K)) (operand_set c.tables.result.now q c.of-left.result c.of-left.ensures.none c.of-left.ensures.set ∙ ap (λ t. root_set t q) c.tables.ensures.same ∙ left)
+    (subst (λ l. Forgets i.dict new (numbers l) (IsUsed (set_in sub_set c.of-left.result))) c.deref-3.ensures.value c.forget.ensures) in
     deleted_graph i.dict i.ctx i.root i.max B c.self.invariant c.len.ensures.one settled there ids all new forgets u q c.take_out.ensures.only left
     ∙ (λ j. set.difference (graph (c.self.view_is j)) (marked_graph (c.self.view_is j) (c.taken.view_is j)))
 
@@ -103,9 +116,9 @@ returns-clause-now g c =
     let all : (id : ℕ) → IsUsed B id → is_among ids id ≡ true = λ id used. c.in_ok-ids.ensures.used id (subst (λ T. IsUsed T id) (sym whole) used) in
     let left : root_set u q ≡ set.difference (root_set i.ctx i.root) B = c.in_ok-take_out.ensures.set ∙ ap (set.difference (root_set i.ctx i.root)) (ap (set_of_entries trip_tuple) c.deref-2.ensures.value ∙ c.in_ok-batch.ensures.set) in
     let forgets : Forgets i.dict new ids (IsUsed (set.difference (root_set i.ctx i.root) B)) =
-    subst (λ K. Forgets i.dict new ids (IsUsed K)) (ap (λ t. root_set t q) c.tables.ensures.same ∙ left)
-    (subst (λ l. Forgets i.dict new (numbers l) (IsUsed (root_set c.tables.result.now q))) c.deref-3.ensures.value c.forget.ensures) in
-    c.count.ensures ∙ ap (λ t. set.len (root_set t q)) c.tables-2.ensures.same ∙ ap set.len left
+    subst (λ K. Forgets i.dict new ids (IsUsed K)) (operand_set c.tables.result.now q c.of-left.result c.of-left.ensures.none c.of-left.ensures.set ∙ ap (λ t. root_set t q) c.tables.ensures.same ∙ left)
+    (subst (λ l. Forgets i.dict new (numbers l) (IsUsed (set_in sub_set c.of-left.result))) c.deref-3.ensures.value c.forget.ensures) in
+    c.len-3.ensures ∙ (λ j. set.len (root_set (c.of.ensures.tables j) (c.of.ensures.root j))) ∙ ap set.len left
     ∙ sym (len-graph_of i.dict c.len.ensures.one (set.difference (root_set i.ctx i.root) B) (known_difference i.dict (root_set i.ctx i.root) B c.self.invariant.known))
     ∙ ap set.len (rest_graph i.dict i.ctx i.root i.max B c.self.invariant c.len.ensures.one settled there)
     ∙ sym (ap set.len (deleted_graph i.dict i.ctx i.root i.max B c.self.invariant c.len.ensures.one settled there ids all new forgets u q c.take_out.ensures.only left))
@@ -124,8 +137,8 @@ returns-clause-settled g c =
     let all : (id : ℕ) → IsUsed B id → is_among ids id ≡ true = λ id used. c.in_ok-ids.ensures.used id (subst (λ T. IsUsed T id) (sym whole) used) in
     let left : root_set u q ≡ set.difference (root_set i.ctx i.root) B = c.in_ok-take_out.ensures.set ∙ ap (set.difference (root_set i.ctx i.root)) (ap (set_of_entries trip_tuple) c.deref-2.ensures.value ∙ c.in_ok-batch.ensures.set) in
     let forgets : Forgets i.dict new ids (IsUsed (set.difference (root_set i.ctx i.root) B)) =
-    subst (λ K. Forgets i.dict new ids (IsUsed K)) (ap (λ t. root_set t q) c.tables.ensures.same ∙ left)
-    (subst (λ l. Forgets i.dict new (numbers l) (IsUsed (root_set c.tables.result.now q))) c.deref-3.ensures.value c.forget.ensures) in
+    subst (λ K. Forgets i.dict new ids (IsUsed K)) (operand_set c.tables.result.now q c.of-left.result c.of-left.ensures.none c.of-left.ensures.set ∙ ap (λ t. root_set t q) c.tables.ensures.same ∙ left)
+    (subst (λ l. Forgets i.dict new (numbers l) (IsUsed (set_in sub_set c.of-left.result))) c.deref-3.ensures.value c.forget.ensures) in
     deleted_settled i.dict i.ctx i.root i.max B c.self.invariant c.len.ensures.one settled there ids all new forgets u q c.take_out.ensures.only left
 
 pub returns-clause-ticks : goal.returns-clause-ticks

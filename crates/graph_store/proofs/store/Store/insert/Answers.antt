@@ -1,8 +1,6 @@
-use Rattle.std.proofs.Common.{◌≡◌, ◌∙◌, sym, ap, subst, arith}
+use Rattle.std.proofs.Common.{◌≡◌, ◌∙◌, refl, sym, ap, subst, arith}
 use Rattle.std.specs.FinSet as set
-use Rattle.trie_context.specs.Kept.{AreKept}
 use Rattle.trie_context.specs.Roots.{root_set}
-use Rattle.trie_view.specs.Places.{IsRootThere}
 use Rattle.graph_image.specs.Images.{graph_of, terms_of, HasExactly, without}
 use Rattle.graph_image.specs.ImageLaws.{len-graph_of}
 use Rattle.graph_store.specs.State.{State, IsSound, graph}
@@ -19,11 +17,16 @@ put_in-requires-clause-few g c =
     let f : Fits s b = fits_back c.args.self.now s c.args.staged b c.self.view_is c.staged.view_is c.requires in
     omega (arith, len-graph i.dict i.ctx i.root i.max b c.self.invariant f c.len.ensures.one, len-staged i.dict i.ctx i.root i.max b c.self.invariant f c.len.ensures.one, f.few)
 
-pub count-requires-clause-kept : goal.count-requires-clause-kept
-count-requires-clause-kept g c = (g.M.Mix.mixed, subst (AreKept g.M.Mix.mixed) (sym c.tables.ensures.same) c.tables.ensures.kept)
+pub of-requires-clause-there : goal.of-requires-clause-there
+of-requires-clause-there g c = root_there c.put_in.new.context c.put_in.new.root c.put_in.ensures.only
 
-pub count-requires-clause-there : goal.count-requires-clause-there
-count-requires-clause-there g c = subst (λ t. IsRootThere t c.put_in.new.root) (sym c.tables.ensures.same) (root_there c.put_in.new.context c.put_in.new.root c.put_in.ensures.only)
+pub of-requires-clause-known : goal.of-requires-clause-known
+of-requires-clause-known g c =
+    let i = c.self.inside in
+    let s : State = record { dict = i.dict; tables = i.ctx; root = i.root; max = i.max } in
+    let b : Staging = record { triples = c.staged.inside.trips; added = numbers c.staged.inside.added.items } in
+    let f : Fits s b = fits_back c.args.self.now s c.args.staged b c.self.view_is c.staged.view_is c.requires in
+    (put_sound i.dict i.ctx i.root i.max b c.self.invariant f c.put_in.new.context c.put_in.new.root c.put_in.ensures.only c.in-Ok.ensures.set c.len.ensures.one).known
 
 pub invariant_of-self : goal.invariant_of-self
 invariant_of-self g c =
@@ -60,7 +63,7 @@ returns-in-Ok-clause-now g c =
     let u = c.put_in.new.context in
     let q = c.put_in.new.root in
     let sound : IsSound i.dict u q i.max = put_sound i.dict i.ctx i.root i.max b c.self.invariant f u q c.put_in.ensures.only c.in-Ok.ensures.set c.len.ensures.one in
-    c.count.ensures ∙ ap (λ t. set.len (root_set t q)) c.tables.ensures.same ∙ sym (len-graph_of i.dict c.len.ensures.one (root_set u q) sound.known)
+    c.len-in-Ok.ensures ∙ (λ j. set.len (root_set (c.of.ensures.tables j) (c.of.ensures.root j))) ∙ sym (len-graph_of i.dict c.len.ensures.one (root_set u q) sound.known)
 
 pub returns-in-Ok-clause-settled : goal.returns-in-Ok-clause-settled
 returns-in-Ok-clause-settled g c =

@@ -4,16 +4,14 @@ use Rattle.std.specs.Cmp.Lexicographic.{slice_cmp}
 use Rattle.std.specs.FinSet as set
 use Rattle.hypertrie_model.specs.Sets.{has}
 use Rattle.hypertrie_model.specs.SetLaws.{or_cases, tied-is}
-use Rattle.ntriples.specs.Lent.{lent_triple}
+use Rattle.rdf_term.specs.Seen.{lent_triple}
 use Rattle.trie_depth.specs.Tuples.{trip_tuple}
-use Rattle.trie_context.specs.Kept.{AreKept}
 use Rattle.trie_context.specs.Roots.{root_set}
-use Rattle.trie_view.specs.Places.{IsRootThere}
+use Rattle.term_dict.specs.Dict.{IsOneToOne}
 use Rattle.graph_image.specs.Images.{graph_of}
 use Rattle.graph_image.specs.ImageLaws.{tuples_total, tuples_exact, graph_of-insert}
 use Rattle.graph_store.specs.State.{graph, triples_of}
 use Rattle.graph_store.specs.Staging.{marked_graph}
-use Rattle.graph_store.proofs.RootLemmas.{root_there}
 use Rattle.graph_store.proofs.TermsLemmas.{not_in_graph, found_triple, triple_is}
 use Rattle.graph_store.proofs.store.Store.mark.Goals as goal
 
@@ -25,12 +23,6 @@ returns-in_default-clause-marked g c =
     let out : set.contains (graph c.args.self.now) t ≡ false = ap (λ s. set.contains (graph s) t) (sym c.self.view_is) ∙ not_in_graph i.dict (root_set i.ctx i.root) c.self.invariant.known t (c.in_default.ensures.none refl) in
     sym (ap (λ x. if x then set.insert T t else T) out)
 
-pub has_triple-requires-clause-kept : goal.has_triple-requires-clause-kept
-has_triple-requires-clause-kept g c = (g.M.Mix.mixed, subst (AreKept g.M.Mix.mixed) (sym c.tables.ensures.same) c.tables.ensures.kept)
-
-pub has_triple-requires-clause-there : goal.has_triple-requires-clause-there
-has_triple-requires-clause-there g c = subst (λ t. IsRootThere t c.self.inside.root) (sym c.tables.ensures.same) (root_there c.self.inside.ctx c.self.inside.root c.self.invariant.only)
-
 pub returns-in_ok-put-clause-marked : goal.returns-in_ok-put-clause-marked
 returns-in_ok-put-clause-marked g c =
     let i = c.self.inside in
@@ -39,9 +31,9 @@ returns-in_ok-put-clause-marked g c =
     let T = marked_graph c.args.self.now c.args.taken.now in
     let there : set.contains (graph c.args.self.now) t ≡ true =
     ap (λ s. set.contains (graph s) t) (sym c.self.view_is)
-    ∙ sym (found_triple i.dict t c.in-Some.trip c.in-Some.ensures.some c.len.ensures.one H c.self.invariant.known)
-    ∙ sym (c.has_triple.ensures ∙ ap (λ u. has (root_set u i.root) (trip_tuple c.in-Some.trip)) c.tables.ensures.same)
-    ∙ c.if-has_triple.true in
+    ∙ sym (found_triple i.dict t c.in-Some.trip c.in-Some.ensures.some (subst (λ s. IsOneToOne s.dict) (sym c.self.view_is) c.view.ensures.one) H c.self.invariant.known)
+    ∙ sym (c.has.ensures ∙ ap (λ K. has K (trip_tuple c.in-Some.trip)) (c.view.ensures.triples ∙ ap triples_of (sym c.self.view_is)))
+    ∙ c.if-has.true in
     ap (λ s. graph_of s.dict c.put.new.self) (sym c.self.view_is)
     ∙ ap (graph_of i.dict) c.in_ok-put.ensures.ok
     ∙ graph_of-insert i.dict c.taken.inside.trips (trip_tuple c.in-Some.trip)
@@ -56,18 +48,18 @@ returns-in_ok-put-clause-there g c = λ there q e.
     or_cases (eq_by_cmp (slice_cmp nat_cmp) q u) (has c.taken.inside.trips q) (sym (set.contains-insert tuples_total c.taken.inside.trips u q) ∙ ap (λ T. has T q) (sym c.in_ok-put.ensures.ok) ∙ e) _
     (λ is. ap (has (triples_of c.args.self.now)) (tied-is tuples_exact q u is)
     ∙ ap (λ s. has (triples_of s) u) (sym c.self.view_is)
-    ∙ sym (c.has_triple.ensures ∙ ap (λ t. has (root_set t i.root) u) c.tables.ensures.same)
-    ∙ c.if-has_triple.true)
+    ∙ sym (c.has.ensures ∙ ap (λ K. has K u) (c.view.ensures.triples ∙ ap triples_of (sym c.self.view_is)))
+    ∙ c.if-has.true)
     (λ old. there q (ap (λ T. has T q) (sym c.taken.view_is) ∙ old))
 
-pub returns-else-has_triple-clause-marked : goal.returns-else-has_triple-clause-marked
-returns-else-has_triple-clause-marked g c =
+pub returns-else-has-clause-marked : goal.returns-else-has-clause-marked
+returns-else-has-clause-marked g c =
     let i = c.self.inside in
     let t = lent_triple c.args.triple in
     let T = marked_graph c.args.self.now c.args.taken.now in
     let out : set.contains (graph c.args.self.now) t ≡ false =
     ap (λ s. set.contains (graph s) t) (sym c.self.view_is)
-    ∙ sym (found_triple i.dict t c.in-Some.trip c.in-Some.ensures.some c.len.ensures.one (root_set i.ctx i.root) c.self.invariant.known)
-    ∙ sym (c.has_triple.ensures ∙ ap (λ u. has (root_set u i.root) (trip_tuple c.in-Some.trip)) c.tables.ensures.same)
-    ∙ c.if-has_triple.false in
+    ∙ sym (found_triple i.dict t c.in-Some.trip c.in-Some.ensures.some (subst (λ s. IsOneToOne s.dict) (sym c.self.view_is) c.view.ensures.one) (root_set i.ctx i.root) c.self.invariant.known)
+    ∙ sym (c.has.ensures ∙ ap (λ K. has K (trip_tuple c.in-Some.trip)) (c.view.ensures.triples ∙ ap triples_of (sym c.self.view_is)))
+    ∙ c.if-has.false in
     sym (ap (λ x. if x then set.insert T t else T) out)

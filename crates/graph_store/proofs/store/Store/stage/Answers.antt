@@ -1,6 +1,6 @@
 use Rattle.std.proofs.Common.{◌≡◌, ◌≤◌, ◌+◌, ◌∙◌, sym, ap, arith, rules}
 use Rattle.std.specs.FinSet as set
-use Rattle.ntriples.specs.Lent.{lent_triple}
+use Rattle.rdf_term.specs.Seen.{lent_triple}
 use Rattle.graph_store.specs.State.{graph}
 use Rattle.graph_store.specs.Staging.{staged_graph}
 use Rattle.graph_store.proofs.FullLemmas.{there_already, new_full}

@@ -1,6 +1,5 @@
-use Rattle.std.proofs.Common.{◌∙◌, ap, subst}
+use Rattle.std.proofs.Common.{◌∙◌, ap}
 use Rattle.std.specs.FinMap as map
-use Rattle.term_dict.specs.Dict.{IsOneToOne}
 use Rattle.graph_image.specs.Images.{terms_of}
 use Rattle.graph_image.specs.TermLaws.{len-terms}
 use Rattle.graph_store.specs.State.{graph}
@@ -13,18 +12,14 @@ returns-clause-triples g c = c.triples.ensures.value ∙ figures_triples (graph 
 pub returns-clause-terms : goal.returns-clause-terms
 returns-clause-terms g c =
     let s = c.args.self.now in
-    c.len.ensures.value ∙ ap (λ x. map.len x.dict) c.self.view_is
-    ∙ len-terms s.dict (terms_of (graph s)) (subst (λ x. IsOneToOne x.dict) c.self.view_is c.len.ensures.one) c.requires
-    ∙ figures_terms (graph s)
+    c.n_terms.ensures ∙ ap map.len c.view.ensures.terms ∙ len-terms s.dict (terms_of (graph s)) c.view.ensures.one c.requires ∙ figures_terms (graph s)
 
 pub returns-clause-two : goal.returns-clause-two
 returns-clause-two g c =
     let s = c.args.self.now in
-    c.len-2.ensures ∙ ap (λ t. map.len t.two.rows) c.tables-tables.ensures.same ∙ ap (λ x. map.len x.tables.two.rows) c.self.view_is
-    ∙ two_rows s c.triples.ensures.stands ∙ figures_two (graph s)
+    c.n_pair_rows.ensures ∙ ap (λ t. map.len t.two.rows) c.view.ensures.tables ∙ two_rows g.M.Mix.mixed s c.triples.ensures.stands ∙ figures_two (graph s)
 
 pub returns-clause-one : goal.returns-clause-one
 returns-clause-one g c =
     let s = c.args.self.now in
-    c.len-3.ensures ∙ ap (λ t. map.len t.one.rows) c.tables-tables.ensures.same ∙ ap (λ x. map.len x.tables.one.rows) c.self.view_is
-    ∙ one_rows s c.triples.ensures.stands ∙ figures_one (graph s)
+    c.n_key_rows.ensures ∙ ap (λ t. map.len t.one.rows) c.view.ensures.tables ∙ one_rows g.M.Mix.mixed s c.triples.ensures.stands ∙ figures_one (graph s)

@@ -1,6 +1,6 @@
 //! The rows of a basic graph pattern, listed one by one. One label is fixed after another, each at the keys that all
 //! patterns with it have in common; no memory is taken after `make`. `bag_model` says which rows answer a query, and
-//! `specs/Listing.antt` which rows are still to come.
+//! which are still to come of a listing.
 #![tactic(auto)]
 
 mod labels;
@@ -11,5 +11,5 @@ mod search;
 mod tests;
 mod track;
 
-pub use lister::Lister;
+pub use lister::{Lister, whole_listings};
 pub use track::Start;

@@ -4,7 +4,8 @@ ghost use Rattle.std.specs.Ordering.{nat_cmp};
 ghost use Rattle.bag_model.specs.Answers.{IsAnswer, chosen_rows};
 ghost use Rattle.bag_model.specs.Solutions.{IsUniverse, all_rows};
 ghost use Rattle.query_plan.specs.Labels.{IsLabelled, column_labels};
-ghost use Rattle.bag_list.specs.Listing.{GoesOn, IsOneLess, MayGive, number_of};
+ghost use Rattle.bag_model.specs.Listings.{GoesOn, MayGive};
+ghost use Rattle.bag_list.specs.Listing.{IsOneLess, ListsWhole, number_of};
 ghost use Rattle.bag_list.specs.Rows.{Row};
 ghost use Rattle.bag_list.specs.Starts.{AreStarts};
 ghost use Rattle.bag_list.specs.Tracks.{rests_of};
@@ -17,7 +18,7 @@ use std::marker::Model;
 use std::sync::ledger::Ledger;
 use trie_depth::{Id, Memory, Operand, Steps};
 
-/// The rows of a query, one by one. Contracts see it as what it may still give (`specs/Listing.antt`).
+/// The rows of a query, one by one. Contracts see it as what it may still give (`Listings` of `bag_model`).
 #[derive(Drop)]
 pub struct Lister<O: Operand> {
     search: Search<O>,
@@ -28,11 +29,12 @@ pub struct Lister<O: Operand> {
 }
 
 impl<O: Operand> Model for Lister<O> {
-    ghost use Rattle.bag_list.specs.Listing.{Listing};
+    ghost use Rattle.std.specs.Prelude.{ℕ};
+    ghost use Rattle.bag_model.specs.Listings.{Listing};
     ghost use Rattle.bag_list.specs.Rows.{present_row, rows_to_come};
     ghost use Rattle.bag_list.specs.Search.{IsKept};
 
-    ghost Value = { Listing };
+    ghost Value = { Listing ℕ };
 
     ghost view = { λ s. record {
       columns = s.search.columns.items;
@@ -69,6 +71,7 @@ impl<O: Operand> Lister<O> {
         ensures row { IfSome result (λ _. GoesOn self.old self.new) }
         ensures none { IsNone result ↔ MayGive self.old [] }
         ensures stays { IsNone result → MayGive self.new [] }
+        ensures ended { IsNone result → self.new.present ≡ None }
         ensures columns { self.new.columns ≡ self.old.columns }
     {
         self.given = false;
@@ -95,6 +98,12 @@ impl<O: Operand> Lister<O> {
         Some(self.search.values[usize::from(label)])
     }
 }
+
+/// What `next` gives until it gives None answers the query of `make`, and what it gave so far begins an answer: both by
+/// `answers` there, which says so of whatever the listing may give.
+pub fn whole_listings()
+    ensures { ListsWhole }
+{}
 
 /// The limit once a row is given. None where none may be given.
 fn less(limit: Option<u64>) -> Option<Option<u64>>

@@ -3,4 +3,5 @@ pub mod Answers
 pub mod ListLaws
 pub mod AnswerLaws
 pub mod SolutionLaws
+pub mod Listings
 pub mod Laws

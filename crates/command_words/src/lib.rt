@@ -24,8 +24,7 @@ const BYTES: u64 = 1_099_511_627_776;
 const ABOUT: &str =
     "Keeps a graph of RDF triples: reads a script from standard input and writes its answers to standard output.";
 
-const EXAMPLE: &str =
-    "Try: printf 'INSERT\\n<x:a> <x:knows> <x:b> .\\nGO\\nDUMP\\n' | tentris";
+const EXAMPLE: &str = "Try: printf 'INSERT\\n<x:a> <x:knows> <x:b> .\\nGO\\nDUMP\\n' | tentris";
 
 // `--sort`
 fn sort_flag<'a>(alloc: Global) -> Arg<'a>

@@ -7,7 +7,10 @@ fn words(rt: HostRuntime) -> Result<(), AllocError> {
     let rows: [(&[&str], &str); 12] = [
         (&[], "false 10000000 1099511627776"),
         (&["--sort"], "true 10000000 1099511627776"),
-        (&["--max-bytes", "7", "--sort", "--max-triples=500000000"], "true 500000000 7"),
+        (
+            &["--max-bytes", "7", "--sort", "--max-triples=500000000"],
+            "true 500000000 7",
+        ),
         (&["--help"], "help"),
         (&["-h", "--sort"], "help"),
         (&["--nonsense", "-h"], "bad"),
@@ -20,9 +23,13 @@ fn words(rt: HostRuntime) -> Result<(), AllocError> {
     ];
     for (words, want) in rows {
         let told = match read_words(rt.alloc(), words) {
-            Ok(Settings { sort, max_triples, max_bytes }) => {
-                format!(in rt.alloc(); "{sort} {max_triples} {max_bytes}")?
-            }
+            Ok(
+                Settings {
+                    sort,
+                    max_triples,
+                    max_bytes,
+                },
+            ) => { format!(in rt.alloc(); "{sort} {max_triples} {max_bytes}")? }
             Err(Refused::Help(_)) => format!(in rt.alloc(); "help")?,
             Err(Refused::Bad) => format!(in rt.alloc(); "bad")?,
             Err(Refused::Memory) => format!(in rt.alloc(); "memory")?,
@@ -38,7 +45,13 @@ fn help(rt: HostRuntime) -> Result<(), AllocError> {
         Err(Refused::Help(text)) => text,
         _ => format!(in rt.alloc(); "none")?,
     };
-    for part in ["standard input", "--sort", "--max-triples <N>", "--max-bytes <N>", "| tentris"] {
+    for part in [
+        "standard input",
+        "--sort",
+        "--max-triples <N>",
+        "--max-bytes <N>",
+        "| tentris",
+    ] {
         assert!(rt; text.as_str().contains(part), "{part}");
     }
     Ok(())

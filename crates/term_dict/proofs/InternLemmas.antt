@@ -1,12 +1,12 @@
 -- What `intern` leaves, for its callers.
-use Rattle.std.proofs.Common.{◌≡◌, ◌≢◌, ◌⊎◌, ℕ, ◌+◌, ◌<◌, ◌≤◌, cond, Bool, true, false, Some, None, sym, ap, subst, ◌∙◌, inl, inr, arith}
+use Rattle.std.proofs.Common.{◌≡◌, ◌≢◌, ◌⊎◌, ℕ, Some, None, sym, ap, ◌∙◌, inl, inr}
 use Rattle.std.proofs.lemmas.Bool.{cases_eq}
 use Rattle.std.specs.Cmp.{nat_cmp_total}
 use Rattle.std.specs.FinMap as map
 use Rattle.std.specs.FinMap.{nat_cmp-IsAntisymmetric}
 use Rattle.hypertrie_model.specs.MapLaws as laws
 use Rattle.rdf_model.specs.Terms.{Term}
-use Rattle.term_dict.specs.Dict.{Terms, IsNew, IsOneToOne, Interns}
+use Rattle.term_dict.specs.Dict.{Terms, Interns}
 
 -- the Id has the term
 pub Interns-get : (old new : Terms) (term : Term) (id : ℕ) → Interns old new term id → map.get new id ≡ Some term

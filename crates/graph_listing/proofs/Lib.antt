@@ -1,0 +1,4 @@
+pub mod PartLemmas
+pub mod NextLemmas
+pub mod ValueLemmas
+pub mod StartLemmas

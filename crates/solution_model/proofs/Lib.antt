@@ -1,0 +1,3 @@
+pub mod TabLemmas
+pub mod TsvLemmas
+pub mod RowLemmas

@@ -1,0 +1,15 @@
+pub mod Members
+pub mod Ordered
+pub mod Rows
+pub mod Texts
+pub mod Answers
+pub mod Rests
+pub mod OrderLaws
+pub mod RestLaws
+pub mod Reading
+pub mod ReadLaws
+pub mod Labels
+pub mod UniverseLaws
+pub mod AnswerLaws
+pub mod ReadListings
+pub mod Laws

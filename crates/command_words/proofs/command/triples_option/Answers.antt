@@ -4,7 +4,7 @@ use Rattle.clap.specs.Walk.{Rule, rule_of}
 use Rattle.clap.specs.Simple.{new_rule}
 use Rattle.command_words.proofs.ValueLemmas.{u64_within}
 use Rattle.command_words.specs.Words.{triples_parser}
-use Rattle.command_words.proofs.triples_option.Goals as goal
+use Rattle.command_words.proofs.command.triples_option.Goals as goal
 
 pub returns : goal.returns
 returns c =

@@ -4,7 +4,7 @@ use Rattle.clap.specs.Walk.{Rule, rule_of}
 use Rattle.clap.specs.Simple.{new_rule}
 use Rattle.clap.specs.declared.builder.action.ArgAction.TheVariants.{SetTrue}
 use Rattle.clap.specs.declared.builder.value_parser.ValueParser.TheVariants.{Bool}
-use Rattle.command_words.proofs.sort_flag.Goals as goal
+use Rattle.command_words.proofs.command.sort_flag.Goals as goal
 
 pub returns : goal.returns
 returns c =

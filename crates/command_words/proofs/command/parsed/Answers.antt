@@ -8,7 +8,7 @@ use Rattle.clap.specs.declared.builder.value_parser.ValueParser.TheVariants as v
 use Rattle.command_words.specs.Words.{command, triples_parser, bytes_parser, HasReadableValues}
 use Rattle.clap.proofs.OnLiterals.{clap_on_literals}
 use Rattle.command_words.proofs.ValueLemmas.{Each, HasParser, IsOwn, each_at, no_groups_built, parsed_built, read_passes}
-use Rattle.command_words.proofs.parsed.Goals as goal
+use Rattle.command_words.proofs.command.parsed.Goals as goal
 
 simple : is_simple command ≡ true
 unfolding clap_on_literals

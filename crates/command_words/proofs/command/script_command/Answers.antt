@@ -3,7 +3,7 @@ use Rattle.std.proofs.lemmas.Result.{IfOk-weaker}
 use Rattle.clap.specs.Words.{Rule, app_of, with_rule}
 use Rattle.command_words.specs.Words.{program}
 use Rattle.command_words.proofs.ValueLemmas.{not_global}
-use Rattle.command_words.proofs.script_command.Goals as goal
+use Rattle.command_words.proofs.command.script_command.Goals as goal
 
 pub returns : goal.returns
 returns c =

@@ -43,8 +43,7 @@ fn change_one<M: Mix, W: Ledger, V: Ledger>(
     ensures kept { OnErr result (context.new ≡ context.old) }
     ensures ticks { interns.new ≤ interns.old + (9 * length batch.now + 10) }
 {
-    // This call tells the proof that the tables are kept.
-    context.tables();
+    context.is_kept();
     match change {
         Change::Shrink if batch.is_empty() => Ok(Root::One(triple)),
         Change::Shrink => Ok(Root::Empty),
@@ -113,8 +112,7 @@ fn update<M: Mix, W: Ledger, V: Ledger>(
     ensures root { OnErr result (root.new ≡ root.old) }
     ensures ticks { interns.new ≤ interns.old + (9 * length batch.now + 10) }
 {
-    // This call tells the proof that the tables are kept.
-    context.tables();
+    context.is_kept();
     let new = change_graph(alloc, context, change, root, batch, interns, retains)?;
     match mem::replace(root, new) {
         Root::Many(held) => context.release(held),

@@ -9,7 +9,7 @@ use Rattle.edge_map.specs.Edges.{Edges}
 use Rattle.trie_context.specs.declared.tables.Tables.{Tables}
 use Rattle.trie_context.specs.FitEdges.{set_at}
 use Rattle.trie_update.specs.declared.change.Change.{Change}
-use Rattle.trie_update.specs.After.{triples_of, triples_after}
+use Rattle.trie_update.specs.After.{triples_of, row_after}
 use Rattle.trie_update.specs.Batches.{set_of_entries, AreInOrder, IsOnce}
 use Rattle.trie_update.specs.Changes.{grows}
 use Rattle.trie_update.specs.Rooms.{FitsSome, AllFit, AreChanges, IsRowThere, row_set_at}
@@ -31,4 +31,4 @@ pub record MayChangeRow (how : Change) (t : Tables) (old : Option ℕ) (batch : 
   pub there : IsRowThere t old
   pub once : IsOnce trip_tuple batch
   pub change : IsChange (grows how) (row_set_at t old) (triples_of batch)
-  pub size : set.len (triples_after how t old batch) < 2 ^ 64
+  pub size : set.len (row_after how t old batch) < 2 ^ 64

@@ -3,7 +3,7 @@ ghost use Rattle.std.specs.Prelude.{◌≡◌, ◌+◌, ◌≤◌, ◌^◌, [], 
 ghost use Rattle.edge_map.specs.Entries.{KeysRise};
 ghost use Rattle.edge_map.specs.Edges.{changed};
 ghost use Rattle.trie_depth.specs.Tuples.{pair_tuple};
-ghost use Rattle.trie_update.specs.After.{pairs_of, map_hold, changes_hold, pairs_room};
+ghost use Rattle.trie_update.specs.After.{pairs_of, map_hold, changes_hold, keys_room};
 ghost use Rattle.trie_update.specs.InHand.{IsInHand};
 ghost use Rattle.trie_update.specs.Premises.{MayChangeMap};
 ghost use Rattle.trie_update.specs.Rooms.{LeavesRoom, AreChanged};
@@ -55,9 +55,9 @@ pub fn change_pair_map<M: Mix, W: Ledger, V: Ledger>(
     retains: &mut Steps<V>,
 ) -> Result<EdgeMap, Memory>
     requires entries { MayChangeMap change context.old 1 pair_tuple old.now pairs.now }
-    requires room { LeavesRoom context.old (pairs_room (length pairs.now)) }
+    requires room { LeavesRoom context.old (keys_room pairs.now) }
     ensures changed { IfOk result (AreChanged change context.old context.new 1 old.now (pairs_of pairs.now)) }
-    ensures held { IfOk result (λ m. IsInHand M.mixed context.old context.new (map_hold 1 m) (pairs_room (length pairs.now))) }
+    ensures held { IfOk result (λ m. IsInHand M.mixed context.old context.new (map_hold 1 m) (keys_room pairs.now)) }
     ensures kept { OnErr result (context.new ≡ context.old) }
     ensures ticks { interns.new ≤ interns.old + length pairs.now }
 {

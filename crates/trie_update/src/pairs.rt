@@ -10,7 +10,7 @@ ghost use Rattle.trie_node.specs.declared.node.Node.{Node};
 ghost use Rattle.trie_node.specs.Sets.{set_hash};
 ghost use Rattle.trie_context.specs.FitEdges.{set_at, StandsAt};
 ghost use Rattle.trie_context.specs.declared.tables.Tables.{Tables};
-ghost use Rattle.trie_update.specs.After.{pairs_after, edge_hold, map_hold, pairs_room, run_room};
+ghost use Rattle.trie_update.specs.After.{pairs_after, edge_hold, map_hold, rest_room, run_room};
 ghost use Rattle.trie_update.specs.InHand.{IsInHand};
 ghost use Rattle.trie_update.specs.Batches.{trip_rest};
 ghost use Rattle.trie_update.specs.Nodes.{ArePairParts, IsPairNodeOf};
@@ -83,9 +83,9 @@ fn change_pair_position<M: Mix, W: Ledger, V: Ledger>(
 ) -> Result<EdgeMap, Memory>
     requires position { position < 2 }
     requires run { MayChangeEdge change context.old 2 trip_rest old run.now }
-    requires room { LeavesRoom context.old (pairs_room (length run.now)) }
+    requires room { LeavesRoom context.old (rest_room run.now) }
     ensures slices { IfOk result (AreSlicesAt context.new 1 (pairs_after change context.old old run.now) position) }
-    ensures held { IfOk result (λ m. IsInHand M.mixed context.old context.new (map_hold 1 m) (pairs_room (length run.now))) }
+    ensures held { IfOk result (λ m. IsInHand M.mixed context.old context.new (map_hold 1 m) (rest_room run.now)) }
     ensures kept { OnErr result (context.new ≡ context.old) }
     ensures ticks { interns.new ≤ interns.old + length run.now }
 {
@@ -154,10 +154,10 @@ fn change_many_pairs<M: Mix, W: Ledger, V: Ledger>(
 ) -> Result<Option<Edge>, Memory>
     requires run { MayChangeEdge change context.old 2 trip_rest old run.now }
     requires some { 1 ≤ length run.now }
-    requires room { LeavesRoom context.old (run_room (length run.now)) }
+    requires room { LeavesRoom context.old (run_room run.now) }
     requires size { set.len (pairs_after change context.old old run.now) < 2 ^ 64 }
     ensures stands { IfOk result (StandsAt context.new 2 (pairs_after change context.old old run.now)) }
-    ensures held { IfOk result (λ e. IsInHand M.mixed context.old context.new (edge_hold 2 e) (run_room (length run.now))) }
+    ensures held { IfOk result (λ e. IsInHand M.mixed context.old context.new (edge_hold 2 e) (run_room run.now)) }
     ensures kept { OnErr result (context.new ≡ context.old) }
     ensures ticks { interns.new ≤ interns.old + 3 * length run.now }
 {
@@ -194,10 +194,10 @@ pub fn change_pairs<M: Mix, W: Ledger, V: Ledger>(
 ) -> Result<Option<Edge>, Memory>
     requires run { MayChangeEdge change context.old 2 trip_rest old run.now }
     requires some { 1 ≤ length run.now }
-    requires room { LeavesRoom context.old (run_room (length run.now)) }
+    requires room { LeavesRoom context.old (run_room run.now) }
     requires size { set.len (pairs_after change context.old old run.now) < 2 ^ 64 }
     ensures stands { IfOk result (StandsAt context.new 2 (pairs_after change context.old old run.now)) }
-    ensures held { IfOk result (λ e. IsInHand M.mixed context.old context.new (edge_hold 2 e) (run_room (length run.now))) }
+    ensures held { IfOk result (λ e. IsInHand M.mixed context.old context.new (edge_hold 2 e) (run_room run.now)) }
     ensures kept { OnErr result (context.new ≡ context.old) }
     ensures ticks { interns.new ≤ interns.old + 3 * length run.now }
 {

@@ -3,7 +3,7 @@ ghost use Rattle.std.specs.Prelude.{◌≡◌, ◌+◌, ◌*◌, ◌≤◌, ◌^
 ghost use Rattle.edge_map.specs.Entries.{KeysRise};
 ghost use Rattle.edge_map.specs.Edges.{changed};
 ghost use Rattle.trie_depth.specs.Tuples.{trip_tuple};
-ghost use Rattle.trie_update.specs.After.{triples_of, map_hold, changes_hold, run_room, triples_room};
+ghost use Rattle.trie_update.specs.After.{triples_of, map_hold, changes_hold, run_room, map_room};
 ghost use Rattle.trie_update.specs.InHand.{IsInHand};
 ghost use Rattle.trie_update.specs.Premises.{MayChangeMap};
 ghost use Rattle.trie_update.specs.Rooms.{LeavesRoom, AreChanged, AreSmallAfter};
@@ -33,10 +33,10 @@ fn triple_changes<M: Mix, W: Ledger, V: Ledger>(
     requires none { changes.old.items ≡ [] }
     requires entries { MayChangeMap change context.old 2 trip_tuple old.now triples.now }
     requires size { AreSmallAfter change context.old 2 old.now (triples_of triples.now) }
-    requires room { LeavesRoom context.old (run_room (length triples.now)) }
+    requires room { LeavesRoom context.old (run_room triples.now) }
     ensures rise { KeysRise changes.new.items }
     ensures changed { OnOk result (AreChanged change context.old context.new 2 old.now (triples_of triples.now) (changed old.now changes.new.items)) }
-    ensures held { IsInHand M.mixed context.old context.new (changes_hold 2 changes.new.items) (run_room (length triples.now)) }
+    ensures held { IsInHand M.mixed context.old context.new (changes_hold 2 changes.new.items) (run_room triples.now) }
     ensures ticks { interns.new ≤ interns.old + 3 * length triples.now }
 {
     context.is_kept();
@@ -58,9 +58,9 @@ pub fn change_triple_map<M: Mix, W: Ledger, V: Ledger>(
 ) -> Result<EdgeMap, Memory>
     requires entries { MayChangeMap change context.old 2 trip_tuple old.now triples.now }
     requires size { AreSmallAfter change context.old 2 old.now (triples_of triples.now) }
-    requires room { LeavesRoom context.old (triples_room (length triples.now)) }
+    requires room { LeavesRoom context.old (map_room triples.now) }
     ensures changed { IfOk result (AreChanged change context.old context.new 2 old.now (triples_of triples.now)) }
-    ensures held { IfOk result (λ m. IsInHand M.mixed context.old context.new (map_hold 2 m) (triples_room (length triples.now))) }
+    ensures held { IfOk result (λ m. IsInHand M.mixed context.old context.new (map_hold 2 m) (map_room triples.now)) }
     ensures kept { OnErr result (context.new ≡ context.old) }
     ensures ticks { interns.new ≤ interns.old + 3 * length triples.now }
 {

@@ -4,11 +4,11 @@ ghost use Rattle.std.specs.Ordering.{nat_cmp};
 ghost use Rattle.std.specs.FinSet as set;
 ghost use Rattle.hypertrie_model.specs.Sets.{single};
 ghost use Rattle.trie_depth.specs.Tuples.{trip_tuple};
-ghost use Rattle.trie_node.specs.Sets.{edges_in, set_hash};
+ghost use Rattle.trie_node.specs.Sets.{set_hash};
 ghost use Rattle.trie_context.specs.Holds.{holds_of, nothing, CountsRiseBy, RowsStay};
 ghost use Rattle.trie_context.specs.Kept.{AreMoved};
 ghost use Rattle.trie_context.specs.Roots.{root_set, root_hold};
-ghost use Rattle.trie_update.specs.After.{triples_after, three_maps, map_hold, triples_room, graph_room};
+ghost use Rattle.trie_update.specs.After.{row_after, map_hold, map_room, maps_room, graph_room, three_edges, three_maps};
 ghost use Rattle.trie_update.specs.InHand.{IsInHand};
 ghost use Rattle.trie_update.specs.Premises.{MayChangeRow};
 ghost use Rattle.trie_update.specs.Rooms.{LeavesRoom, AllFit, AreSlicesAt, row_set_at, IsRowThere, first_set};
@@ -73,9 +73,9 @@ fn change_triple_position<M: Mix, W: Ledger, V: Ledger>(
 ) -> Result<EdgeMap, Memory>
     requires position { position < 3 }
     requires batch { MayChangeRow change context.old old batch.now }
-    requires room { LeavesRoom context.old (triples_room (length batch.now)) }
-    ensures slices { IfOk result (AreSlicesAt context.new 2 (triples_after change context.old old batch.now) position) }
-    ensures held { IfOk result (λ m. IsInHand M.mixed context.old context.new (map_hold 2 m) (triples_room (length batch.now))) }
+    requires room { LeavesRoom context.old (map_room batch.now) }
+    ensures slices { IfOk result (AreSlicesAt context.new 2 (row_after change context.old old batch.now) position) }
+    ensures held { IfOk result (λ m. IsInHand M.mixed context.old context.new (map_hold 2 m) (map_room batch.now)) }
     ensures kept { OnErr result (context.new ≡ context.old) }
     ensures ticks { interns.new ≤ interns.old + 3 * length batch.now }
 {
@@ -95,11 +95,11 @@ fn change_positions<M: Mix, W: Ledger, V: Ledger>(
     retains: &mut Steps<V>,
 ) -> Result<(EdgeMap, EdgeMap, EdgeMap), Memory>
     requires batch { MayChangeRow change context.old old batch.now }
-    requires room { LeavesRoom context.old (3 * triples_room (length batch.now)) }
-    ensures first { IfOk result (λ m. AreSlicesAt context.new 2 (triples_after change context.old old batch.now) 0 m.0) }
-    ensures second { IfOk result (λ m. AreSlicesAt context.new 2 (triples_after change context.old old batch.now) 1 m.1) }
-    ensures third { IfOk result (λ m. AreSlicesAt context.new 2 (triples_after change context.old old batch.now) 2 m.2) }
-    ensures held { IfOk result (λ m. IsInHand M.mixed context.old context.new (three_maps m.0 m.1 m.2) (3 * triples_room (length batch.now))) }
+    requires room { LeavesRoom context.old (maps_room batch.now) }
+    ensures first { IfOk result (λ m. AreSlicesAt context.new 2 (row_after change context.old old batch.now) 0 m.0) }
+    ensures second { IfOk result (λ m. AreSlicesAt context.new 2 (row_after change context.old old batch.now) 1 m.1) }
+    ensures third { IfOk result (λ m. AreSlicesAt context.new 2 (row_after change context.old old batch.now) 2 m.2) }
+    ensures held { IfOk result (λ m. IsInHand M.mixed context.old context.new (three_maps m.0 m.1 m.2) (maps_room batch.now)) }
     ensures kept { OnErr result (context.new ≡ context.old) }
     ensures ticks { interns.new ≤ interns.old + 9 * length batch.now }
 {
@@ -149,7 +149,7 @@ fn release_positions<M: Mix>(
     second: &EdgeMap,
     third: &EdgeMap,
 )
-    requires { (r : ℕ) → edges_in first.now r + (edges_in second.now r + edges_in third.now r) ≤ holds_of context.old 2 r }
+    requires { (r : ℕ) → three_edges first.now second.now third.now r ≤ holds_of context.old 2 r }
     ensures moved { AreMoved M.mixed context.old context.new nothing (three_maps first.now second.now third.now) }
     ensures counts { CountsRiseBy context.old context.new nothing }
     ensures came { RowsStay context.new context.old }
@@ -170,9 +170,9 @@ pub fn change_root<M: Mix, W: Ledger, V: Ledger>(
     retains: &mut Steps<V>,
 ) -> Result<Root, Memory>
     requires batch { MayChangeRow change context.old old batch.now }
-    requires room { LeavesRoom context.old (graph_room (length batch.now)) }
-    ensures set { IfOk result (λ root. root_set context.new root ≡ triples_after change context.old old batch.now) }
-    ensures held { IfOk result (λ root. IsInHand M.mixed context.old context.new (root_hold root) (graph_room (length batch.now))) }
+    requires room { LeavesRoom context.old (graph_room batch.now) }
+    ensures set { IfOk result (λ root. root_set context.new root ≡ row_after change context.old old batch.now) }
+    ensures held { IfOk result (λ r. IsInHand M.mixed context.old context.new (root_hold r) (graph_room batch.now)) }
     ensures kept { OnErr result (context.new ≡ context.old) }
     ensures ticks { interns.new ≤ interns.old + (9 * length batch.now + 1) }
 {

@@ -6,13 +6,10 @@ mod command;
 #[cfg(test)]
 mod tests;
 
-ghost use Rattle.std.specs.Prelude.{◌≡◌, ◌≢◌, ◌↔◌, IfOk, List, map, [], ◌∷◌, codes, true, false};
-ghost use Rattle.clap.specs.Walk.{Text};
+ghost use Rattle.std.specs.Prelude.{IfOk, map};
 ghost use Rattle.clap.specs.Words.{kind_of};
-ghost use Rattle.command_words.specs.Words.{rows, faults, HasAtMostOne};
-ghost use Rattle.command_words.specs.Answers.{IsAnswer, IsRefusalOf, IsWithinLimits, accepts, answer_to, refuses, settings_of, shows_help};
-ghost use Rattle.command_words.specs.declared.Settings.{Settings};
-ghost use Rattle.clap.specs.declared.error.kind.ErrorKind.{ErrorKind};
+ghost use Rattle.command_words.specs.Answers.{IsAnswer, IsRefusalOf, IsWithinLimits, answer_to};
+ghost use Rattle.command_words.specs.Laws.{FaultsAreOfOneKind, AcceptsWithoutFault, HelpsWhereAsked, RefusesAnotherFault, HasAnswers};
 
 use crate::command::parsed;
 use clap::Error;
@@ -76,27 +73,18 @@ pub fn read_words<S: AsStr>(alloc: Global, words: &[S]) -> Result<Settings, Refu
 
 /// No words have two kinds of fault.
 pub fn faults_are_of_one_kind()
-    ensures { (words : List Text) → HasAtMostOne (faults words) }
+    ensures { FaultsAreOfOneKind }
 {}
 
 /// The answer is the settings exactly where clap has no fault, help exactly where that is the kind,
 /// and a refusal exactly where it is another kind.
 pub fn answers_are_exact()
-    ensures accepted { (words : List Text) (s : Settings) → (answer_to words ≡ accepts s) ↔ ((faults words ≡ []) × (s ≡ settings_of (rows words))) }
-    ensures help { (words : List Text) → (answer_to words ≡ shows_help) ↔ (faults words ≡ ErrorKind.DisplayHelp ∷ []) }
-    ensures refused { (words : List Text) → (answer_to words ≡ refuses) ↔ ((k : ErrorKind) × (k ≢ ErrorKind.DisplayHelp) × (faults words ≡ k ∷ [])) }
+    ensures accepted { AcceptsWithoutFault }
+    ensures help { HelpsWhereAsked }
+    ensures refused { RefusesAnotherFault }
 {}
 
 /// The answer to some words, as one would expect it.
 pub fn answers_by_example()
-    ensures nothing { answer_to [] ≡ accepts (record { sort = false; max_triples = 10000000; max_bytes = 1099511627776 }) }
-    ensures sort { answer_to (codes "--sort" ∷ []) ≡ accepts (record { sort = true; max_triples = 10000000; max_bytes = 1099511627776 }) }
-    ensures limits { answer_to (codes "--max-triples" ∷ codes "9" ∷ codes "--max-bytes=1" ∷ []) ≡ accepts (record { sort = false; max_triples = 9; max_bytes = 1 }) }
-    ensures help { answer_to (codes "--help" ∷ []) ≡ shows_help }
-    ensures short_help { answer_to (codes "-h" ∷ []) ≡ shows_help }
-    ensures help_first { answer_to (codes "--help" ∷ codes "--nonsense" ∷ []) ≡ shows_help }
-    ensures help_late { answer_to (codes "--nonsense" ∷ codes "--help" ∷ []) ≡ refuses }
-    ensures too_many { answer_to (codes "--max-triples" ∷ codes "500000001" ∷ []) ≡ refuses }
-    ensures too_few { answer_to (codes "--max-bytes" ∷ codes "0" ∷ []) ≡ refuses }
-    ensures version { answer_to (codes "--version" ∷ []) ≡ refuses }
+    ensures { HasAnswers }
 {}

@@ -2,13 +2,14 @@
 //!
 //! A `FileReader` holds all buffers of reading from its start on, and reads one file after another. The lines are those
 //! of `text_lines`, and what a file that is too long has of them is in `file_model`'s `specs/FileLines.antt`.
-ghost use Rattle.std.specs.Prelude.{◌≡◌, ◌≤◌, ◌<◌, ◌^◌, [], List, ℕ, length, true, false, None, Ok, Err, IfOk, IfSome, OnErr};
+ghost use Rattle.std.specs.Prelude.{◌≡◌, ◌≤◌, ◌<◌, ◌^◌, [], List, ℕ, length, true, false, None, Ok, IfOk, IfSome, OnOk, OnErr};
+ghost use Rattle.tn_io.specs.Causes.{Rose};
 ghost use Rattle.tn_io.specs.CutterState.{told, to_come, whole_to_come};
 ghost use Rattle.file_read.specs.ReaderState.{at_start, to_go, to_read};
 
 use std::alloc::Global;
 use std::marker::Model;
-use tn_io::{Cut, Cutter, Files};
+use tn_io::{Cut, Cutter, Failed, Files};
 use trie_depth::Memory;
 
 const SIZE: usize = 65_536;
@@ -47,7 +48,6 @@ impl Model for FileReader {
 
 impl FileReader {
     ghost use Rattle.file_read.specs.ReaderCalls.{NextLine, Takes, TellsMore, EndsAt, IsCounted};
-    ghost use Rattle.file_read.specs.declared.reader.FileFault.TheVariants.{Read};
 
     /// For files of at most `max` bytes. Takes all buffers of reading.
     pub fn new(alloc: Global, max: u64) -> Result<FileReader, Memory>
@@ -93,7 +93,7 @@ impl FileReader {
     }
 
     // Reads bytes ahead, where there are none, and says whether any came.
-    fn refill<F: Files>(&mut self, files: &mut F, name: &str) -> Result<bool, FileFault>
+    fn refill<F: Files>(&mut self, files: &mut F, name: &str) -> Result<bool, Failed>
         requires empty { self.old.ahead ≡ [] }
         requires under { self.old.place ≤ self.old.max }
         ensures takes { Takes (F.files files.old) name.now self.old self.new }
@@ -101,16 +101,15 @@ impl FileReader {
         ensures at_end { result ≡ Ok false → EndsAt (F.files files.old) name.now self.old.place }
         ensures same { F.files files.new ≡ F.files files.old }
         ensures err { OnErr result (self.new ≡ self.old) }
-        ensures cause { IsCounted (F.faults files.old) (F.faults files.new) name.now self.new.place result }
-        ensures read { OnErr result (result ≡ Err Read) }
+        ensures later { (other : List ℕ) → (at : ℕ) → F.faults files.old other at ≤ F.faults files.new other at }
+        ensures failed { OnErr result (Rose (F.faults files.old name.now self.old.place) (F.faults files.new name.now self.old.place)) }
+        ensures unraised { OnOk result (F.faults files.new ≡ F.faults files.old) }
         ensures fewer { result ≡ Ok true → to_read self.new < to_read self.old }
         ensures no_more { to_go self.new ≤ to_go self.old }
         ensures max { self.new.max ≡ self.old.max }
         ensures ended { self.new.ended ≡ self.old.ended }
     {
-        let Ok(count) = files.read_at(name, self.place, self.buffer.as_mut_slice()) else {
-            return Err(FileFault::Read);
-        };
+        let count = files.read_at(name, self.place, self.buffer.as_mut_slice())?;
         if count == 0 {
             return Ok(false);
         }

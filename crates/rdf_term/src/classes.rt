@@ -5,7 +5,7 @@ ghost use Rattle.ntriples_model.specs.Characters.{is_letter, is_letter_or_digit,
 
 /// A byte of an IRI that stands for itself.
 #[tactic(auto, using(std::proofs::lemmas::Bool::Decides::nat_tests), unfolding(ntriples_model::specs::Characters::is_iri_char))]
-pub(crate) fn fits_iri(b: u8) -> bool
+pub fn fits_iri(b: u8) -> bool
     ensures { result ≡ is_iri_char b }
 {
     b > b' '

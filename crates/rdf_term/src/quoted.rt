@@ -26,7 +26,7 @@ fn ends_scheme(bytes: &[u8]) -> bool
 
 /// Whether an IRI has a scheme.
 #[tactic(auto, unfolding(ntriples_model::specs::Terminals::is_absolute))]
-fn absolute(text: &[u8]) -> bool
+pub fn absolute(text: &[u8]) -> bool
     ensures { result ≡ is_absolute text.now }
 {
     match text.split_first() {

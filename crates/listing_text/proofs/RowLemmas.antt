@@ -62,65 +62,66 @@ pub record HasPut {K : Type 0} (written : K → Option (List ℕ)) (old now : Ou
   pub put : all_put written now ≡ append_known (all_put written old) (flat_map row_line rows)
   pub told : count ≡ rows_told (length rows)
 
-append_none : (a : Option (List ℕ)) → a ≡ append_known a []
+pub append_none : (a : Option (List ℕ)) → a ≡ append_known a []
 append_none None = refl
 append_none (Some a) = ap Some (sym (append-nil a))
 
-module _ {K : Type 0} {written : K → Option (List ℕ)} {faults : K → ℕ} {old : Out K} where
-  pub none_put : (s : Listing Term) → HasPut written old old s s 0
-  none_put s = record { rows = []; behind = λ more may. may; put = append_none (all_put written old); told = refl }
+pub none_put : {K : Type 0} {written : K → Option (List ℕ)} {old : Out K} (s : Listing Term) → HasPut written old old s s 0
+none_put {K} {written} {old} s = record { rows = []; behind = λ more may. may; put = append_none (all_put written old); told = refl }
 
-  module _ {now new : Out K} {s t u : Listing Term} {count : ℕ} (h : HasPut written old now s t count) where
-    lines : (row : Row) → flat_map row_line (h.rows ++ row ∷ []) ≡ flat_map row_line h.rows ++ row_line row
-    lines row = flat_map-append row_line h.rows (row ∷ []) ∙ ap (λ z. flat_map row_line h.rows ++ z) (append-nil (row_line row))
+lines : (rows : List Row) (row : Row) → flat_map row_line (rows ++ row ∷ []) ≡ flat_map row_line rows ++ row_line row
+lines rows row = flat_map-append row_line rows (row ∷ []) ∙ ap (λ z. flat_map row_line rows ++ z) (append-nil (row_line row))
 
-    moved : (on : GoesOn t u) (more : List Row) → MayGive u more → MayGive s ((h.rows ++ on.row ∷ []) ++ more)
-    moved on more may = subst (MayGive s) (sym (append_assoc h.rows (on.row ∷ []) more)) (h.behind (on.row ∷ more) (on.behind more may))
+module _ {K : Type 0} {written : K → Option (List ℕ)} {old now : Out K} {s t : Listing Term} {count : ℕ} (h : HasPut written old now s t count) where
+  moved : (u : Listing Term) (on : GoesOn t u) (more : List Row) → MayGive u more → MayGive s ((h.rows ++ on.row ∷ []) ++ more)
+  moved u on more may = subst (MayGive s) (sym (append_assoc h.rows (on.row ∷ []) more)) (h.behind (on.row ∷ more) (on.behind more may))
 
-    -- one row more
-    pub one_put : (again : ℕ) (on : GoesOn t u) → all_put written new ≡ append_known (all_put written now) (row_line on.row) → again ≡ min (count + 1) (2 ^ 64 - 1) → HasPut written old new s u again
-    one_put again on is sum = record {
-      rows = h.rows ++ on.row ∷ [];
-      behind = moved on;
-      put = is ∙ ap (λ z. append_known z (row_line on.row)) h.put ∙ append_known-append (all_put written old) (flat_map row_line h.rows) (row_line on.row) ∙ ap (append_known (all_put written old)) (sym (lines on.row));
-      told = sum ∙ next count (length h.rows) h.told ∙ ap rows_told (let e : length h.rows + 1 ≡ length (h.rows ++ on.row ∷ []) = omega (arith, length-append h.rows (on.row ∷ [])) in e);
-    } where
-      next : (c n : ℕ) → c ≡ min n (2 ^ 64 - 1) → min (c + 1) (2 ^ 64 - 1) ≡ min (n + 1) (2 ^ 64 - 1)
-      next c n e = omega (arith, e)
+  -- one row more
+  pub one_put : (new : Out K) (u : Listing Term) (again : ℕ) (on : GoesOn t u) → all_put written new ≡ append_known (all_put written now) (row_line on.row) → again ≡ min (count + 1) (2 ^ 64 - 1) → HasPut written old new s u again
+  one_put new u again on is sum = record {
+    rows = h.rows ++ on.row ∷ [];
+    behind = moved u on;
+    put = is ∙ ap (λ z. append_known z (row_line on.row)) h.put ∙ append_known-append (all_put written old) (flat_map row_line h.rows) (row_line on.row) ∙ ap (append_known (all_put written old)) (sym (lines h.rows on.row));
+    told = sum ∙ next count (length h.rows) h.told ∙ ap rows_told (let e : length h.rows + 1 ≡ length (h.rows ++ on.row ∷ []) = omega (arith, length-append h.rows (on.row ∷ [])) in e);
+  } where
+    next : (c n : ℕ) → c ≡ min n (2 ^ 64 - 1) → min (c + 1) (2 ^ 64 - 1) ≡ min (n + 1) (2 ^ 64 - 1)
+    next c n e = omega (arith, e)
 
-    -- no row is left
-    pub all_rows_put : {result : Result ℕ Failed} → result ≡ Ok count → MayGive t [] → HasCause (faults old.sink.now) (faults now.sink.now) result → Begins (written old.sink.now) (written now.sink.now) → PutsRows written faults old now result s
-    all_rows_put {result} is may cause grows = record {
-      rows = h.rows;
-      given = subst (MayGive s) (append-nil h.rows) (h.behind [] may);
-      put = subst (λ r. IfOk r (λ n. all_put written now ≡ append_known (all_put written old) (flat_map row_line h.rows))) (sym is) h.put;
-      count = subst (λ r. IfOk r (λ n. n ≡ rows_told (length h.rows))) (sym is) h.told;
-      cut = subst (λ r. OnErr r (Begins (written now.sink.now) (append_known (all_put written old) (flat_map row_line h.rows)))) (sym is) tt;
-      cause = cause;
-      grows = grows;
-    }
+  -- no row is left
+  pub all_rows_put : (faults : K → ℕ) (result : Result ℕ Failed) → result ≡ Ok count → MayGive t [] → HasCause (faults old.sink.now) (faults now.sink.now) result → Begins (written old.sink.now) (written now.sink.now) → PutsRows written faults old now result s
+  all_rows_put faults result is may cause grows = record {
+    rows = h.rows;
+    given = subst (MayGive s) (append-nil h.rows) (h.behind [] may);
+    put = subst (λ r. IfOk r (λ n. all_put written now ≡ append_known (all_put written old) (flat_map row_line h.rows))) (sym is) h.put;
+    count = subst (λ r. IfOk r (λ n. n ≡ rows_told (length h.rows))) (sym is) h.told;
+    cut = subst (λ r. OnErr r (Begins (written now.sink.now) (append_known (all_put written old) (flat_map row_line h.rows)))) (sym is) tt;
+    cause = cause;
+    grows = grows;
+  }
 
-    -- a row was cut off
-    pub row_cut : {result : Result ℕ Failed} (e : Failed) → result ≡ Err e → (on : GoesOn t u) → Begins (written new.sink.now) (append_known (all_put written now) (row_line on.row)) → HasCause (faults old.sink.now) (faults new.sink.now) result
-        → Begins (written old.sink.now) (written new.sink.now) → PutsRows written faults old new result s
-    row_cut {result} e is on cut cause grows =
-        let some = some_answer u.limit u.offset u.rows in
-        let rows = (h.rows ++ on.row ∷ []) ++ some.0 in
-        record {
-          rows = rows;
-          given = moved on some.0 some.1;
-          put = subst (λ r. IfOk r (λ n. all_put written new ≡ append_known (all_put written old) (flat_map row_line rows))) (sym is) tt;
-          count = subst (λ r. IfOk r (λ n. n ≡ rows_told (length rows))) (sym is) tt;
-          cut = subst (λ r. OnErr r (Begins (written new.sink.now) (append_known (all_put written old) (flat_map row_line rows)))) (sym is) (
-            subst (Begins (written new.sink.now))
-            (append_known-append (append_known (all_put written old) (flat_map row_line h.rows)) (row_line on.row) (flat_map row_line some.0)
-            ∙ append_known-append (all_put written old) (flat_map row_line h.rows) (row_line on.row ++ flat_map row_line some.0)
-            ∙ ap (append_known (all_put written old)) (sym (append_assoc (flat_map row_line h.rows) (row_line on.row) (flat_map row_line some.0)) ∙ ap (λ z. z ++ flat_map row_line some.0) (sym (lines on.row)) ∙ sym (flat_map-append row_line (h.rows ++ on.row ∷ []) some.0)))
-            (begins_more (written new.sink.now) (append_known (append_known (all_put written old) (flat_map row_line h.rows)) (row_line on.row)) (flat_map row_line some.0)
-            (subst (λ z. Begins (written new.sink.now) (append_known z (row_line on.row))) h.put cut)));
-          cause = cause;
-          grows = grows;
-        }
+  -- a row was cut off
+  pub row_cut : (faults : K → ℕ) (new : Out K) (u : Listing Term) (result : Result ℕ Failed) (e : Failed) → result ≡ Err e → (on : GoesOn t u) → Begins (written new.sink.now) (append_known (all_put written now) (row_line on.row))
+      → HasCause (faults old.sink.now) (faults new.sink.now) result → Begins (written old.sink.now) (written new.sink.now) → PutsRows written faults old new result s
+  row_cut faults new u result e is on cut cause grows =
+      let some = some_answer u.limit u.offset u.rows in
+      record {
+        rows = (h.rows ++ on.row ∷ []) ++ some.0;
+        given = moved u on some.0 some.1;
+        put = subst (λ r. IfOk r (λ n. all_put written new ≡ append_known (all_put written old) (flat_map row_line ((h.rows ++ on.row ∷ []) ++ some.0)))) (sym is) tt;
+        count = subst (λ r. IfOk r (λ n. n ≡ rows_told (length ((h.rows ++ on.row ∷ []) ++ some.0)))) (sym is) tt;
+        cut = subst (λ r. OnErr r (Begins (written new.sink.now) (append_known (all_put written old) (flat_map row_line ((h.rows ++ on.row ∷ []) ++ some.0))))) (sym is)
+            (whole (written new.sink.now) on.row some.0 cut);
+        cause = cause;
+        grows = grows;
+      } where
+        whole : (w : Option (List ℕ)) (row : Row) (more : List Row) → Begins w (append_known (all_put written now) (row_line row)) → Begins w (append_known (all_put written old) (flat_map row_line ((h.rows ++ row ∷ []) ++ more)))
+        whole w row more cut =
+            subst (Begins w)
+            (append_known-append (append_known (all_put written old) (flat_map row_line h.rows)) (row_line row) (flat_map row_line more)
+            ∙ append_known-append (all_put written old) (flat_map row_line h.rows) (row_line row ++ flat_map row_line more)
+            ∙ ap (append_known (all_put written old)) (sym (append_assoc (flat_map row_line h.rows) (row_line row) (flat_map row_line more)) ∙ ap (λ z. z ++ flat_map row_line more) (sym (lines h.rows row)) ∙ sym (flat_map-append row_line (h.rows ++ row ∷ []) more)))
+            (begins_more w (append_known (append_known (all_put written old) (flat_map row_line h.rows)) (row_line row)) (flat_map row_line more)
+            (subst (λ z. Begins w (append_known z (row_line row))) h.put cut))
 
 -- the fields of a row, as far as its values are known
 pub field_at : (row : Row) (i : ℕ) (v : Option Term) → slice_get row i ≡ Some v → slice_get (map field_text row) i ≡ Some (field_text v)

@@ -60,9 +60,9 @@ fn put_rows<K: Sink, W: Ledger>(
 {
     let mut count: u64 = 0;
     'rows: loop {
-        if listing.next(reads).is_none() {
+        let Some(()) = listing.next(reads) else {
             return Ok(count);
-        }
+        };
         put_row(listing, columns, out)?;
         count = count.saturating_add(1);
     }
@@ -71,16 +71,15 @@ fn put_rows<K: Sink, W: Ledger>(
 /// Puts the whole answer of a query, whose listing this is: the columns, the rows, and how many they are.
 pub fn put_listing<K: Sink, W: Ledger>(
     query: &Query,
-    listing: Listing<'_>,
+    mut listing: Listing<'_>,
     out: &mut Out<'_, K>,
     reads: &mut Steps<W>,
 ) -> Result<(), Failed>
-    requires columns { length query.now.columns ≡ length listing.columns }
-    requires wide { HasWidth listing }
+    requires columns { length query.now.columns ≡ length listing.entry.columns }
+    requires wide { HasWidth listing.entry }
     ensures same_sink { out.new.sink.ghost_name ≡ out.old.sink.ghost_name }
-    ensures put { PutsAnswer K.written K.faults out.old out.new result (query_seen query.now).columns listing }
+    ensures put { PutsAnswer K.written K.faults out.old out.new result (query_seen query.now).columns listing.entry }
 {
-    let mut listing = listing;
     header(query, out)?;
     let rows = put_rows(&mut listing, query.columns.len(), out, reads)?;
     ok(Reply::Rows(rows), out)

@@ -128,3 +128,7 @@ pub field_at : (row : Row) (i : ℕ) (v : Option Term) → slice_get row i ≡ S
 field_at [] i v e = absurd (let f : ⊥ = cc in f)
 field_at (u ∷ row) zero v e = ap (λ (w : Option Term). Some (field_text w)) (let same : u ≡ v = cc in same)
 field_at (u ∷ row) (suc i) v e = field_at row i v e
+
+pub fields_long : (row : Row) → length (map field_text row) ≡ length row
+fields_long [] = refl
+fields_long (v ∷ row) = omega (arith, fields_long row)

@@ -75,8 +75,8 @@ pub fn put_listing<K: Sink, W: Ledger>(
     out: &mut Out<'_, K>,
     reads: &mut Steps<W>,
 ) -> Result<(), Failed>
-    requires columns { length query.now.columns ≡ length listing.entry.columns }
-    requires wide { HasWidth listing.entry }
+    requires columns { length query.now.columns ≡ length listing.columns }
+    requires wide { HasWidth listing }
     ensures same_sink { out.new.sink.ghost_name ≡ out.old.sink.ghost_name }
     ensures put { PutsAnswer K.written K.faults out.old out.new result (query_seen query.now).columns listing.entry }
 {

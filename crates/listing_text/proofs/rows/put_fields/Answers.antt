@@ -1,7 +1,7 @@
 use Rattle.std.proofs.Common.{rules, arith, ◌≡◌, ◌∙◌, refl, ap, sym, take, length}
 use Rattle.std.specs.Prelude.{map}
 use Rattle.std.specs.Option.{option_map}
-use Rattle.std.proofs.lemmas.List.{take_all, length-map}
+use Rattle.std.proofs.lemmas.List.{take_all}
 use Rattle.std.proofs.lemmas.Result.{err_from_is_err_and}
 use Rattle.std.specs.Io.KnownBytes.{append_known}
 use Rattle.rdf_term.specs.Seen.{lent_term}
@@ -9,7 +9,7 @@ use Rattle.tn_io.specs.OutText.{all_put}
 use Rattle.tn_io.proofs.KnownLemmas.{begins_self, begins_trans}
 use Rattle.solution_model.specs.Texts.{tabbed, field_text}
 use Rattle.answer_text.proofs.RowLemmas.{field_more, field_cut}
-use Rattle.listing_text.proofs.RowLemmas.{append_none, field_at}
+use Rattle.listing_text.proofs.RowLemmas.{append_none, field_at, fields_long}
 use Rattle.listing_text.proofs.rows.put_fields.Goals as goal
 
 pub loop-col-init : goal.loop-col-init
@@ -35,7 +35,7 @@ returns-in_err-field-clause-put g c = λ row is wide.
 
 pub returns-clause-put : goal.returns-clause-put
 returns-clause-put g c = λ row is wide. record {
-  put = c.loop-col.invariant.put row is ∙ ap (λ z. append_known (all_put g.K.Sink.written c.args.out.now) (tabbed z)) (take_all c.loop-col.col (map field_text row) (omega (arith, wide, length-map field_text row)));
+  put = c.loop-col.invariant.put row is ∙ ap (λ z. append_known (all_put g.K.Sink.written c.args.out.now) (tabbed z)) (take_all c.loop-col.col (map field_text row) (omega (arith, wide, fields_long row)));
   cut = tt;
   cause = record { later = c.loop-col.invariant.faults; failed = tt };
   grows = c.loop-col.invariant.grows;

@@ -25,7 +25,7 @@ pub rows-smaller : goal.rows-smaller
 rows-smaller g c = fewer _ _ c.in-Some.ensures.row
 
 pub returns-in_default-clause-put : goal.returns-in_default-clause-put
-returns-in_default-clause-put g c = all_rows_put c.rows.invariant.has g.K.Sink.faults _ refl (c.in_default.ensures.none.0 tt) (record { later = c.rows.invariant.faults; failed = tt }) c.rows.invariant.grows
+returns-in_default-clause-put g c = all_rows_put c.rows.invariant.has g.K.Sink.faults _ refl (c.in_default.ensures.none.0 refl) (record { later = c.rows.invariant.faults; failed = tt }) c.rows.invariant.grows
 
 pub returns-in_err-put_row-clause-put : goal.returns-in_err-put_row-clause-put
 returns-in_err-put_row-clause-put g c =

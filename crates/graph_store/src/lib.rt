@@ -2,10 +2,12 @@
 //! it as a graph of RDF, a set of triples of terms (`specs/State.antt`).
 //!
 //! A batch is staged triple by triple, which may add terms to the dictionary, and then put in as a whole, or abandoned
-//! with the terms that it added (`specs/Staging.antt`). Triples that are to go are marked first, and deleted together.
+//! with the terms that it added (`specs/Staging.antt`). Triples that are to go are marked first, and deleted together. The
+//! rows that answer a query are listed one by one.
 #![tactic(auto)]
 
 mod ids;
+mod listed;
 mod report;
 mod staged;
 mod store;
@@ -15,6 +17,7 @@ mod terms;
 mod tests;
 mod trips;
 
+pub use graph_listing::{Listing, whole_listings};
 pub use report::Stats;
 pub use staged::{StageFault, Staged};
 pub use store::{Changed, Store};

@@ -1,0 +1,27 @@
+//! The rows that answer a query over the graph.
+ghost use Rattle.std.specs.Prelude.{◌≡◌, List, None, IfOk};
+ghost use Rattle.query_plan.specs.Labels.{IsLabelled};
+ghost use Rattle.query_plan.specs.Seen.{query_seen};
+ghost use Rattle.bag_model.specs.Listings.{MayGive};
+ghost use Rattle.solution_model.specs.Answers.{IsAnswerTo};
+ghost use Rattle.solution_model.specs.Rows.{Row, column_labels};
+ghost use Rattle.graph_store.specs.State.{graph};
+
+use crate::store::Store;
+use graph_listing::Listing;
+use query_plan::Query;
+use std::alloc::Global;
+use trie_depth::{Memory, Mix};
+
+impl<M: Mix> Store<M> {
+    /// A listing of the rows that answer the query, of which none was given yet. Whatever it may give answers the query
+    /// over the graph; that a whole listing is one of these is a law of `whole_listings`. Its rows take no memory.
+    pub fn listing<'a>(&'a self, alloc: Global, query: &Query) -> Result<Listing<'a>, Memory>
+        requires { IsLabelled query.now }
+        ensures columns { IfOk result (λ s. s.columns ≡ column_labels (query_seen query.now)) }
+        ensures present { IfOk result (λ s. s.present ≡ None) }
+        ensures answers { IfOk result (λ s. (rows : List Row) → MayGive s rows → IsAnswerTo (query_seen query.now) (graph self.now) rows) }
+    {
+        Listing::make(alloc, self.view(), query)
+    }
+}

@@ -4,8 +4,10 @@
 
 mod pieces;
 mod reply;
+mod row;
 #[cfg(test)]
 mod tests;
 
 pub use pieces::put_lines;
 pub use reply::{Figures, Refusal, Reply, ok, put_figures, refused};
+pub use row::{end_row, field, header};

@@ -1,14 +1,10 @@
 //! The listing of the rows of a query.
-ghost use Rattle.std.specs.Prelude.{◌≡◌, ◌↔◌, ◌<◌, ℕ, [], List, length, slice_get, None, Some, IfOk, IfSome, IsNone};
-ghost use Rattle.std.specs.Ordering.{nat_cmp};
-ghost use Rattle.bag_model.specs.Answers.{IsAnswer, chosen_rows};
-ghost use Rattle.bag_model.specs.Solutions.{IsUniverse, all_rows};
+ghost use Rattle.std.specs.Prelude.{◌≡◌, ◌↔◌, ◌<◌, [], length, slice_get, None, Some, IfOk, IfSome, IsNone};
 ghost use Rattle.query_plan.specs.Labels.{IsLabelled, column_labels};
 ghost use Rattle.bag_model.specs.Listings.{GoesOn, MayGive};
-ghost use Rattle.bag_list.specs.Listing.{IsOneLess, ListsWhole, number_of};
+ghost use Rattle.bag_list.specs.Listing.{GivesAnswers, IsOneLess, ListsWhole, number_of};
 ghost use Rattle.bag_list.specs.Rows.{Row};
 ghost use Rattle.bag_list.specs.Starts.{AreStarts};
-ghost use Rattle.bag_list.specs.Tracks.{rests_of};
 
 use crate::search::{Search, leave_out};
 use crate::track::Start;
@@ -54,7 +50,7 @@ impl<O: Operand> Lister<O> {
         requires starts { AreStarts O.depth_of O.tuples starts.now query.now.patterns }
         ensures columns { IfOk result (λ s. s.columns ≡ column_labels query.now.columns) }
         ensures present { IfOk result (λ s. s.present ≡ None) }
-        ensures answers { IfOk result (λ s. (u : List ℕ) → IsUniverse nat_cmp u (rests_of O.tuples starts.now) → (rows : List Row) → MayGive s rows → IsAnswer query.now.limit query.now.offset (chosen_rows nat_cmp query.now.distinct (all_rows nat_cmp u query.now.labels (rests_of O.tuples starts.now) (column_labels query.now.columns))) rows) }
+        ensures answers { IfOk result (λ s. GivesAnswers O.tuples query.now starts.now s) }
     {
         let columns = labels_of(alloc, &query.columns)?;
         let search = Search::of(alloc, starts, query.labels, columns, query.distinct)?;

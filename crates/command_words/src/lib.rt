@@ -2,17 +2,19 @@
 //! of `clap`, and `specs/Words.antt` says what it reads.
 #![tactic(auto)]
 
-ghost use Rattle.std.specs.Prelude.{◌≡◌, ◌≢◌, ◌↔◌, IfOk, List, map, [], ◌∷◌, codes, true, false};
-ghost use Rattle.clap.specs.Walk.{Text};
-ghost use Rattle.clap.specs.Words.{FailsBy, app_of, kind_of, found_of, rows_of, rule_of};
-ghost use Rattle.command_words.specs.Words.{command, rows, faults, HasAtMostOne, HasReadableValues, sort_rule, max_triples_rule, max_bytes_rule};
-ghost use Rattle.command_words.specs.Answers.{IsAnswer, IsRefusalOf, IsWithinLimits, accepts, answer_to, refuses, settings_of, shows_help};
-ghost use Rattle.command_words.specs.declared.Settings.{Settings};
-ghost use Rattle.clap.specs.declared.error.kind.ErrorKind.{ErrorKind};
+mod command;
+#[cfg(test)]
+mod tests;
 
+ghost use Rattle.std.specs.Prelude.{IfOk, map};
+ghost use Rattle.clap.specs.Words.{kind_of};
+ghost use Rattle.command_words.specs.Answers.{IsAnswer, IsRefusalOf, IsWithinLimits, answer_to};
+ghost use Rattle.command_words.specs.Laws.{FaultsAreOfOneKind, AcceptsWithoutFault, HelpsWhereAsked, RefusesAnotherFault, HasAnswers};
+
+use crate::command::parsed;
+use clap::Error;
 use clap::error::ErrorKind;
-use clap::{Arg, ArgAction, ArgMatches, Command, Error};
-use std::alloc::{AllocError, Global};
+use std::alloc::Global;
 use std::convert::AsStr;
 
 /// How many triples the graph may hold, where the words say nothing.
@@ -20,67 +22,6 @@ const TRIPLES: u64 = 10_000_000;
 
 /// How many bytes the script and each file may have, where the words say nothing.
 const BYTES: u64 = 1_099_511_627_776;
-
-const ABOUT: &str =
-    "Keeps a graph of RDF triples: reads a script from standard input and writes its answers to standard output.";
-
-const EXAMPLE: &str = "Try: printf 'INSERT\\n<x:a> <x:knows> <x:b> .\\nGO\\nDUMP\\n' | tentris";
-
-// `--sort`
-fn sort_flag<'a>(alloc: Global) -> Arg<'a>
-    ensures { rule_of result ≡ sort_rule }
-{
-    Arg::new(alloc, "sort")
-        .long("sort")
-        .action(ArgAction::SetTrue)
-        .help("Sort the rows of each answer")
-        .value_parser(clap::value_parser!(bool))
-}
-
-// `--max-triples N`
-fn triples_option<'a>(alloc: Global) -> Arg<'a>
-    ensures { rule_of result ≡ max_triples_rule }
-{
-    Arg::new(alloc, "max-triples")
-        .long("max-triples")
-        .value_name("N")
-        .help("The most triples of the graph, 10000000 by itself")
-        .value_parser(clap::value_parser!(u64).range(1..=500_000_000))
-}
-
-// `--max-bytes N`
-fn bytes_option<'a>(alloc: Global) -> Arg<'a>
-    ensures { rule_of result ≡ max_bytes_rule }
-{
-    Arg::new(alloc, "max-bytes")
-        .long("max-bytes")
-        .value_name("N")
-        .help("The most bytes of the script and of each file, 1099511627776 by itself")
-        .value_parser(clap::value_parser!(u64).range(1..=1_099_511_627_776))
-}
-
-// The command, of which `command` in `specs/Words.antt` says all that a parse reads.
-fn script_command<'a>(alloc: Global) -> Result<Command<'a>, AllocError>
-    ensures { IfOk result (λ c. app_of c ≡ command) }
-{
-    Command::new(alloc, "tentris")
-        .no_binary_name(true)
-        .about(ABOUT)
-        .after_help(EXAMPLE)
-        .arg(sort_flag(alloc))?
-        .arg(triples_option(alloc))?
-        .arg(bytes_option(alloc))
-}
-
-// What clap makes of the words.
-fn parsed<'a, S: AsStr>(alloc: Global, words: &'a [S]) -> Result<ArgMatches<'a>, Error>
-    ensures matches { IfOk result (λ m. rows_of (found_of m) ≡ rows (map S.text words.now)) }
-    ensures values { IfOk result HasReadableValues }
-    ensures kinds { FailsBy (faults (map S.text words.now)) result }
-{
-    let command = script_command(alloc)?;
-    command.try_get_matches_from(words)
-}
 
 /// What the words ask for.
 #[derive(Clone, Copy, Debug, PartialEq, Eq)]
@@ -132,30 +73,18 @@ pub fn read_words<S: AsStr>(alloc: Global, words: &[S]) -> Result<Settings, Refu
 
 /// No words have two kinds of fault.
 pub fn faults_are_of_one_kind()
-    ensures { (words : List Text) → HasAtMostOne (faults words) }
+    ensures { FaultsAreOfOneKind }
 {}
 
 /// The answer is the settings exactly where clap has no fault, help exactly where that is the kind,
 /// and a refusal exactly where it is another kind.
 pub fn answers_are_exact()
-    ensures accepted { (words : List Text) (s : Settings) → (answer_to words ≡ accepts s) ↔ ((faults words ≡ []) × (s ≡ settings_of (rows words))) }
-    ensures help { (words : List Text) → (answer_to words ≡ shows_help) ↔ (faults words ≡ ErrorKind.DisplayHelp ∷ []) }
-    ensures refused { (words : List Text) → (answer_to words ≡ refuses) ↔ ((k : ErrorKind) × (k ≢ ErrorKind.DisplayHelp) × (faults words ≡ k ∷ [])) }
+    ensures accepted { AcceptsWithoutFault }
+    ensures help { HelpsWhereAsked }
+    ensures refused { RefusesAnotherFault }
 {}
 
 /// The answer to some words, as one would expect it.
 pub fn answers_by_example()
-    ensures nothing { answer_to [] ≡ accepts (record { sort = false; max_triples = 10000000; max_bytes = 1099511627776 }) }
-    ensures sort { answer_to (codes "--sort" ∷ []) ≡ accepts (record { sort = true; max_triples = 10000000; max_bytes = 1099511627776 }) }
-    ensures limits { answer_to (codes "--max-triples" ∷ codes "9" ∷ codes "--max-bytes=1" ∷ []) ≡ accepts (record { sort = false; max_triples = 9; max_bytes = 1 }) }
-    ensures help { answer_to (codes "--help" ∷ []) ≡ shows_help }
-    ensures short_help { answer_to (codes "-h" ∷ []) ≡ shows_help }
-    ensures help_first { answer_to (codes "--help" ∷ codes "--nonsense" ∷ []) ≡ shows_help }
-    ensures help_late { answer_to (codes "--nonsense" ∷ codes "--help" ∷ []) ≡ refuses }
-    ensures too_many { answer_to (codes "--max-triples" ∷ codes "500000001" ∷ []) ≡ refuses }
-    ensures too_few { answer_to (codes "--max-bytes" ∷ codes "0" ∷ []) ≡ refuses }
-    ensures version { answer_to (codes "--version" ∷ []) ≡ refuses }
+    ensures { HasAnswers }
 {}
-
-#[cfg(test)]
-mod tests;

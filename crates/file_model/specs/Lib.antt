@@ -1,1 +1,2 @@
 pub mod FileMap
+pub mod FileLines

@@ -1,14 +1,13 @@
 //! The listing of a query's answers.
-ghost use Rattle.std.specs.Prelude.{◌≡◌, ◌↔◌, ◌<◌, List, [], length, slice_get, None, Some, IfOk, IfSome, IsNone, IsSome};
+ghost use Rattle.std.specs.Prelude.{◌≡◌, ◌↔◌, ◌<◌, [], length, slice_get, None, Some, IfOk, IfSome, IsNone, IsSome};
 ghost use Rattle.std.specs.Option.{option_map};
 ghost use Rattle.rdf_term.specs.Seen.{lent_term};
 ghost use Rattle.query_plan.specs.Labels.{IsLabelled};
 ghost use Rattle.query_plan.specs.Seen.{query_seen};
 ghost use Rattle.bag_model.specs.Listings.{GoesOn, MayGive};
 ghost use Rattle.graph_view.specs.Views.{graph_in};
-ghost use Rattle.solution_model.specs.Answers.{IsAnswerTo};
 ghost use Rattle.solution_model.specs.Rows.{Row, column_labels};
-ghost use Rattle.graph_listing.specs.Wholes.{ListsWhole};
+ghost use Rattle.graph_listing.specs.Wholes.{GivesAnswers, ListsWhole};
 
 use crate::starts::starts_of;
 use bag_list::Lister;
@@ -53,7 +52,7 @@ impl<'a> Listing<'a> {
         requires { IsLabelled query.now }
         ensures columns { IfOk result (λ s. s.columns ≡ column_labels (query_seen query.now)) }
         ensures present { IfOk result (λ s. s.present ≡ None) }
-        ensures answers { IfOk result (λ s. (rows : List Row) → MayGive s rows → IsAnswerTo (query_seen query.now) (graph_in graph.entry) rows) }
+        ensures answers { IfOk result (λ s. GivesAnswers query.now (graph_in graph.entry) s) }
     {
         let starts = starts_of(alloc, graph, &query.patterns)?;
         let lister = Lister::make(alloc, &starts, query)?;

@@ -1,16 +1,12 @@
 //! What is left of a query's patterns once their constants are fixed.
-ghost use Rattle.std.specs.Prelude.{◌≡◌, ℕ, ◌^◌, ◌++◌, ◌<◌, ◌≤◌, List, length, IfOk, IfSome, Some};
-ghost use Rattle.hypertrie_model.specs.Sets.{TupleSet};
-ghost use Rattle.rdf_model.specs.Graph.{term_cmp};
+ghost use Rattle.std.specs.Prelude.{◌≡◌, ℕ, ◌++◌, ◌<◌, ◌≤◌, List, length, IfOk, IfSome, Some};
 ghost use Rattle.graph_shape.specs.GraphShapes.{tuples_of};
 ghost use Rattle.trie_depth.specs.Masks.{FitsDepth, n_positions};
 ghost use Rattle.query_plan.specs.Labels.{label_of, pattern_labels};
-ghost use Rattle.query_plan.specs.Seen.{place_seen, pattern_seen};
 ghost use Rattle.trie_view.specs.Subs.{sub_depth};
 ghost use Rattle.graph_view.specs.Views.{graph_in};
 ghost use Rattle.bag_list.specs.Starts.{three_places};
-ghost use Rattle.solution_model.specs.Rests.{slice_by, rest_of};
-ghost use Rattle.graph_listing.specs.Parts.{IsPart, AreStartsOf, n_left};
+ghost use Rattle.graph_listing.specs.Parts.{AreStartsIn, FixesPattern, FixesPlace, IsPart, n_left};
 
 use bag_list::Start;
 use graph_view::GraphView;
@@ -34,7 +30,7 @@ pub(crate) fn starts_of<'a>(
     graph: GraphView<'a>,
     patterns: &Patterns,
 ) -> Result<Vec<Start<Sub<'a>>>, Memory>
-    ensures { IfOk result (λ starts. AreStartsOf graph.entry.all.dict.now (graph_in graph.entry) patterns.now starts.items) }
+    ensures { IfOk result (λ starts. AreStartsIn graph.entry patterns.now starts.items) }
 {
     let triples = triples_of(graph);
     let mut starts = Vec::new(alloc);
@@ -69,7 +65,7 @@ fn left_by<'a, W: Ledger>(
     requires parts { blank.parts ≡ W.parts }
     requires whole { 0 < W.parts }
     requires deep { IfSome triples (λ s. sub_depth s ≡ 3) }
-    ensures { (T : TupleSet term_cmp) → IsPart dict.now T 3 triples.entry → IsPart dict.now (slice_by (place_seen pattern.now.s) 0 (slice_by (place_seen pattern.now.p) 1 (slice_by (place_seen pattern.now.o) 2 T))) (length (pattern_labels pattern.now)) result }
+    ensures { FixesPattern dict.now pattern.now triples.entry result }
 {
     let mut reads = Steps::<W>::new(blank);
     let by_object = fixed(dict, triples?, &pattern.o, OBJECT, &mut reads)?;
@@ -88,7 +84,7 @@ fn fixed<'a, W: Ledger>(
     requires fits { FitsDepth mask.0 (sub_depth tuples) }
     requires one { n_positions mask.0 ≡ 1 }
     ensures depth { IfSome result (λ s. sub_depth s ≡ n_left place.now (sub_depth tuples.entry)) }
-    ensures part { (T : TupleSet term_cmp) (d i : ℕ) → mask.0 ≡ 2 ^ i → i < d → d ≤ 3 → IsPart dict.now T d (Some tuples.entry) → IsPart dict.now (slice_by (place_seen place.now) i T) (n_left place.now d) result }
+    ensures part { FixesPlace dict.now place.now mask.0 (Some tuples.entry) result }
 {
     match place {
         Place::Label(_) => Some(tuples),

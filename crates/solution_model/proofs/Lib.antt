@@ -1,3 +1,4 @@
 pub mod TabLemmas
 pub mod TsvLemmas
 pub mod RowLemmas
+pub mod WorkedRows

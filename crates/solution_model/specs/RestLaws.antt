@@ -129,11 +129,11 @@ pub all_weaker : {X : Type 0} (P Q : X → Type 0) → ((x : X) → P x → Q x)
 all_weaker P Q gives [] all = tt
 all_weaker P Q gives (x ∷ xs) all = (gives x all.0, all_weaker P Q gives xs all.1)
 
--- the rows are those of the slices at the patterns' constants
-pub rows_of_rests : (q : Query) (G : Graph) → AreBelow q.labels q.patterns → all_rows q G ≡ bag.all_rows term_cmp (ordered_terms G) q.labels (map (rest_of G) q.patterns) (column_labels q)
-unfolding all_rows
-rows_of_rests q G below = ap (map (row_of (column_labels q)))
-    (filter_agree_on (is_solution G q.patterns) (bag.is_solution term_cmp (map (rest_of G) q.patterns)) (assignments (ordered_terms G) q.labels)
+-- the rows are those of the slices at the patterns' constants, whichever terms are gone through
+pub rows_of_rests : (v : List Term) (q : Query) (G : Graph) → AreBelow q.labels q.patterns
+    → map (row_of (column_labels q)) (filter (is_solution G q.patterns) (assignments v q.labels)) ≡ bag.all_rows term_cmp v q.labels (map (rest_of G) q.patterns) (column_labels q)
+rows_of_rests v q G below = ap (map (row_of (column_labels q)))
+    (filter_agree_on (is_solution G q.patterns) (bag.is_solution term_cmp (map (rest_of G) q.patterns)) (assignments v q.labels)
     (all_weaker (λ a. length a ≡ q.labels) (λ a. is_solution G q.patterns a ≡ bag.is_solution term_cmp (map (rest_of G) q.patterns) a)
     (λ a e. same_solution G q.patterns a (subst (λ n. AreBelow n q.patterns) (sym e) below))
-    (assignments (ordered_terms G) q.labels) (assignment_lengths (ordered_terms G) q.labels)))
+    (assignments v q.labels) (assignment_lengths v q.labels)))

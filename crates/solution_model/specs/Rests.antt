@@ -26,9 +26,10 @@ abbrev pub slice_by : Place → ℕ → TupleSet term_cmp → TupleSet term_cmp
 slice_by (LabelAt l) i H = H
 slice_by (Const t) i H = slice term_cmp H i t
 
--- the slice of the graph at the pattern's constants, and the labels of the positions that are left
+-- the slice of a set of triples at the pattern's constants
+abbrev pub slice_of : Pattern → TupleSet term_cmp → TupleSet term_cmp
+slice_of p H = slice_by p.s 0 (slice_by p.p 1 (slice_by p.o 2 H))
+
+-- that of the graph, and the labels of the positions that are left
 abbrev pub rest_of : Graph → Pattern → Rest term_cmp
-rest_of G p = record {
-  tuples = slice_by p.s 0 (slice_by p.p 1 (slice_by p.o 2 (tuples_of G)));
-  labels = pattern_labels p;
-}
+rest_of G p = record { tuples = slice_of p (tuples_of G); labels = pattern_labels p }

@@ -79,15 +79,17 @@ over-tuples_of G u e =
     let v = in_image triples_total exact_triples (lists_total terms_total) (slice_cmp-IsAntisymmetric exact_terms) tuple_of G u e in
     subst (λ w. list_all (is_term G) w ≡ true) v.is (tuple_within G v.member v.there)
 
-over-slice_by : (G : Graph) (H : TupleSet term_cmp) (place : Place) (i : ℕ) → IsOver (is_term G) H → IsOver (is_term G) (slice_by place i H)
-over-slice_by G H (LabelAt l) i over = over
-over-slice_by G H (Const t) i over = over-slice terms_total exact_terms terms_total exact_terms (λ x. x) (is_term G) (λ x y _ _ e. e) H i t over
+module _ (known : Term → Bool) where
+  over-slice_by : (H : TupleSet term_cmp) (place : Place) (i : ℕ) → IsOver known H → IsOver known (slice_by place i H)
+  over-slice_by H (LabelAt l) i over = over
+  over-slice_by H (Const t) i over = over-slice terms_total exact_terms terms_total exact_terms (λ x. x) known (λ x y _ _ e. e) H i t over
 
-over-rest_of : (G : Graph) (p : Pattern) → IsOver (is_term G) (rest_of G p).tuples
-over-rest_of G p =
-    let o = over-slice_by G (tuples_of G) p.o 2 (over-tuples_of G) in
-    let v = over-slice_by G (slice_by p.o 2 (tuples_of G)) p.p 1 o in
-    over-slice_by G (slice_by p.p 1 (slice_by p.o 2 (tuples_of G))) p.s 0 v
+  -- what a pattern leaves has no other terms
+  pub over-rest_of : (G : Graph) → IsOver known (tuples_of G) → (p : Pattern) → IsOver known (rest_of G p).tuples
+  over-rest_of G over p =
+      let o = over-slice_by (tuples_of G) p.o 2 over in
+      let v = over-slice_by (slice_by p.o 2 (tuples_of G)) p.p 1 o in
+      over-slice_by (slice_by p.p 1 (slice_by p.o 2 (tuples_of G))) p.s 0 v
 
 listed : (G : Graph) (t : List Term) → list_all (is_term G) t ≡ true → AllByRecursion (λ x. list_any (eq_by_cmp term_cmp x) (ordered_terms G) ≡ true) t
 listed G [] all = tt
@@ -97,7 +99,7 @@ pub terms_universe : (G : Graph) (patterns : List Pattern) → IsUniverse term_c
 terms_universe G patterns = record { distinct = distinct-ordered_terms G; whole = whole patterns } where
   whole : (ps : List Pattern) → AllByRecursion (λ r. (t : List Term) → has r.tuples t ≡ true → AllByRecursion (λ x. list_any (eq_by_cmp term_cmp x) (ordered_terms G) ≡ true) t) (map (rest_of G) ps)
   whole [] = tt
-  whole (p ∷ ps) = ((λ t e. listed G t (over-rest_of G p t e)), whole ps)
+  whole (p ∷ ps) = ((λ t e. listed G t (over-rest_of (is_term G) G (over-tuples_of G) p t e)), whole ps)
 
 pub have_labels : (q : Query) (G : Graph) → IsLabelled q → HaveLabels term_cmp q.labels (map (rest_of G) q.patterns)
 have_labels q G labelled l lt = same q.patterns ∙ labelled.each l lt where
@@ -108,7 +110,8 @@ have_labels q G labelled l lt = same q.patterns ∙ labelled.each l lt where
 -- which terms are gone through makes no difference to the rows, as long as those of the graph are among them
 pub rows_over : (q : Query) (G : Graph) (v : List Term) → IsLabelled q → IsUniverse term_cmp v (map (rest_of G) q.patterns)
     → IsPermutation (all_rows q G) (bag.all_rows term_cmp v q.labels (map (rest_of G) q.patterns) (column_labels q))
-rows_over q G v labelled whole = subst (λ rows. IsPermutation rows (bag.all_rows term_cmp v q.labels (map (rest_of G) q.patterns) (column_labels q))) (sym (rows_of_rests q G labelled.places))
+unfolding all_rows
+rows_over q G v labelled whole = subst (λ rows. IsPermutation rows (bag.all_rows term_cmp v q.labels (map (rest_of G) q.patterns) (column_labels q))) (sym (rows_of_rests (ordered_terms G) q G labelled.places))
     (rows_alike terms_total exact_terms (ordered_terms G) v q.labels (map (rest_of G) q.patterns) (column_labels q) (terms_universe G q.patterns) whole (have_labels q G labelled))
 
 module _ (q : Query) (G : Graph) (labelled : IsLabelled q) (term : ℕ → Term) (known : ℕ → Bool) (one : IsOneToOneWhere known term) (u : List ℕ) (rests : List (Rest nat_cmp)) (all : list_all known u ≡ true) (are : AreRead nat_cmp term_cmp term known rests (map (rest_of G) q.patterns)) (whole : IsUniverse nat_cmp u rests) where

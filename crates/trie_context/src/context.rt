@@ -57,6 +57,13 @@ impl<M: Mix> Context<M> {
         &self.tables
     }
 
+    /// The tables are kept between any two calls: a law, and nothing is done.
+    pub fn is_kept(&self)
+        ensures { AreKept M.mixed self.now }
+    {
+        let _tables = &self.tables;
+    }
+
     /// A hold on the one row that is equal to the node, made where there was none. The node's edges become those of the
     /// new row; where there was one, and for want of memory, they are given up.
     pub fn intern<L: Level, W: Ledger>(

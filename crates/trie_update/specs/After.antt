@@ -1,6 +1,7 @@
 -- What a change makes of the set that an edge, a row or a root stands for.
-use Rattle.std.specs.Prelude.{ℕ, ◌+◌, ◌*◌, ◌^◌, List, Option}
+use Rattle.std.specs.Prelude.{ℕ, ◌+◌, ◌*◌, ◌^◌, List, Option, length}
 use Rattle.std.specs.Ordering.{nat_cmp}
+use Rattle.std.specs.FinSet as set
 use Rattle.hypertrie_model.specs.Changes.{after}
 use Rattle.hypertrie_model.specs.IdSets.{IdSet}
 use Rattle.hypertrie_model.specs.Sets.{single}
@@ -34,8 +35,8 @@ abbrev pub pairs_after : Change → Tables → Option Edge → List Trip → IdS
 pairs_after change t old run = after (grows change) (set_at t 2 old) (set_of_entries trip_rest run)
 
 -- the triples of a row, changed by a batch
-abbrev pub triples_after : Change → Tables → Option ℕ → List Trip → IdSet
-triples_after change t old batch = after (grows change) (row_set_at t old) (triples_of batch)
+abbrev pub row_after : Change → Tables → Option ℕ → List Trip → IdSet
+row_after change t old batch = after (grows change) (row_set_at t old) (triples_of batch)
 
 -- one triple, changed by a batch
 abbrev pub one_after : Change → Trip → List Trip → IdSet
@@ -59,20 +60,39 @@ map_hold d m = at_depth d (edges_in m)
 abbrev pub changes_hold : ℕ → List (Id × Option Edge) → ℕ → ℕ → ℕ
 changes_hold d cs = at_depth d (changes_lead cs)
 
--- how much counts rise at most where the edges at a position of pairs are made anew for n of them, a set of pairs, the
--- edges at a position of triples, and a graph
-abbrev pub pairs_room : ℕ → ℕ
-pairs_room n = n + 2 ^ 32
+-- how much counts rise at most where the edges at a position of pairs are made anew, a set of pairs, the edges at a
+-- position of triples, those at all three, a graph, and a graph of one triple more
+abbrev pub keys_room : List Pair → ℕ
+keys_room pairs = length pairs + 2 ^ 32
 
-abbrev pub run_room : ℕ → ℕ
-run_room n = 2 ^ 34 * n
+abbrev pub rest_room : List Trip → ℕ
+rest_room run = length run + 2 ^ 32
 
-abbrev pub triples_room : ℕ → ℕ
-triples_room n = 2 ^ 34 * n + 2 ^ 32
+abbrev pub run_room : List Trip → ℕ
+run_room run = 2 ^ 34 * length run
 
-abbrev pub graph_room : ℕ → ℕ
-graph_room n = 3 * (2 ^ 34 * n + 2 ^ 32) + 1
+abbrev pub map_room : List Trip → ℕ
+map_room batch = 2 ^ 34 * length batch + 2 ^ 32
 
--- the holds of the edges of three maps of a node of depth three
+abbrev pub maps_room : List Trip → ℕ
+maps_room batch = 3 * (2 ^ 34 * length batch + 2 ^ 32)
+
+abbrev pub graph_room : List Trip → ℕ
+graph_room batch = 3 * (2 ^ 34 * length batch + 2 ^ 32) + 1
+
+abbrev pub one_room : List Trip → ℕ
+one_room batch = 3 * (2 ^ 34 * (length batch + 1) + 2 ^ 32) + 1
+
+-- the edges of three maps of a node of depth three, and their holds
+abbrev pub three_edges : Edges → Edges → Edges → ℕ → ℕ
+three_edges a b c r = edges_in a r + (edges_in b r + edges_in c r)
+
 abbrev pub three_maps : Edges → Edges → Edges → ℕ → ℕ → ℕ
 three_maps a b c = at_depth 2 (λ r. edges_in a r + (edges_in b r + edges_in c r))
+
+-- the triples of a graph with a batch, and without it
+abbrev pub with_batch : Tables → Root → List Trip → IdSet
+with_batch t root batch = set.union (root_set t root) (triples_of batch)
+
+abbrev pub without_batch : Tables → Root → List Trip → IdSet
+without_batch t root batch = set.difference (root_set t root) (triples_of batch)

@@ -8,3 +8,4 @@ pub mod FigureLaws
 pub mod HandLaws
 pub mod After
 pub mod InHand
+pub mod Premises

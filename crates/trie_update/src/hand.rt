@@ -19,8 +19,7 @@ pub fn release_changes<M: Mix, L: Level>(context: &mut Context<M>, changes: &[(I
     ensures counts { CountsRiseBy context.old context.new nothing }
     ensures came { RowsStay context.new context.old }
 {
-    // This call tells the proof that the tables are kept.
-    let _tables = context.tables();
+    context.is_kept();
     for (_, edge) in changes {
         if let Some(edge) = edge {
             context.release_edge::<L>(*edge);

@@ -2,15 +2,15 @@
 ghost use Rattle.std.specs.Prelude.{◌≡◌, ℕ, ◌+◌, ◌≤◌, IsNone, IfSome, IfOk, OnErr};
 ghost use Rattle.std.specs.Prelude.{map as each};
 ghost use Rattle.std.specs.FinMap as map;
-ghost use Rattle.hypertrie_model.specs.Changes.{IsChange};
 ghost use Rattle.trie_node.specs.Sets.{leads, set_hash};
 ghost use Rattle.trie_context.specs.Holds.{nothing};
 ghost use Rattle.trie_context.specs.declared.tables.Tables.{Tables};
 ghost use Rattle.trie_update.specs.After.{keys_after, edge_hold};
 ghost use Rattle.trie_update.specs.InHand.{IsInHand};
-ghost use Rattle.trie_update.specs.Batches.{set_of_entries, AreInOrder, pair_rest};
-ghost use Rattle.trie_update.specs.Changes.{grows, key_change};
+ghost use Rattle.trie_update.specs.Batches.{AreInOrder, pair_rest};
+ghost use Rattle.trie_update.specs.Changes.{key_change};
 ghost use Rattle.trie_context.specs.FitEdges.{set_at, StandsAt};
+ghost use Rattle.trie_update.specs.Premises.{MayChangeEdge};
 ghost use Rattle.trie_update.specs.Rooms.{LeavesRoom, FitsSome, AreKeys};
 
 use crate::change::Change;
@@ -123,17 +123,14 @@ fn change_many_keys<M: Mix, W: Ledger>(
     run: &[Pair],
     interns: &mut Steps<W>,
 ) -> Result<Option<Edge>, Memory>
-    requires fits { FitsSome context.old 1 old }
-    requires order { AreInOrder pair_rest run.now }
-    requires change { IsChange (grows change) (set_at context.old 1 old) (set_of_entries pair_rest run.now) }
+    requires run { MayChangeEdge change context.old 1 pair_rest old run.now }
     requires room { LeavesRoom context.old 1 }
     ensures stands { IfOk result (StandsAt context.new 1 (keys_after change context.old old run.now)) }
     ensures held { IfOk result (λ e. IsInHand M.mixed context.old context.new (edge_hold 1 e) 1) }
     ensures kept { OnErr result (context.new ≡ context.old) }
     ensures ticks { interns.new ≤ interns.old + 1 }
 {
-    // This call tells the proof that the tables are kept.
-    let _tables = context.tables();
+    context.is_kept();
     let keys = changed_keys(alloc, context, change, old, run)?;
     let size = keys.len();
     if size < 2 {
@@ -160,17 +157,14 @@ pub fn change_keys<M: Mix, W: Ledger>(
     run: &[Pair],
     interns: &mut Steps<W>,
 ) -> Result<Option<Edge>, Memory>
-    requires fits { FitsSome context.old 1 old }
-    requires order { AreInOrder pair_rest run.now }
-    requires change { IsChange (grows change) (set_at context.old 1 old) (set_of_entries pair_rest run.now) }
+    requires run { MayChangeEdge change context.old 1 pair_rest old run.now }
     requires room { LeavesRoom context.old 1 }
     ensures stands { IfOk result (StandsAt context.new 1 (keys_after change context.old old run.now)) }
     ensures held { IfOk result (λ e. IsInHand M.mixed context.old context.new (edge_hold 1 e) 1) }
     ensures kept { OnErr result (context.new ≡ context.old) }
     ensures ticks { interns.new ≤ interns.old + 1 }
 {
-    // This call tells the proof that the tables are kept.
-    let _tables = context.tables();
+    context.is_kept();
     match lone_key(change, old, run) {
         Some(edge) => Ok(Some(edge)),
         None => change_many_keys(alloc, context, change, old, run, interns),

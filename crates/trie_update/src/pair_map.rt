@@ -3,10 +3,10 @@ ghost use Rattle.std.specs.Prelude.{◌≡◌, ◌+◌, ◌≤◌, ◌^◌, [], 
 ghost use Rattle.edge_map.specs.Entries.{KeysRise};
 ghost use Rattle.edge_map.specs.Edges.{changed};
 ghost use Rattle.trie_depth.specs.Tuples.{pair_tuple};
-ghost use Rattle.trie_update.specs.After.{pairs_of, map_hold, changes_hold, pairs_room};
+ghost use Rattle.trie_update.specs.After.{pairs_of, map_hold, changes_hold, keys_room};
 ghost use Rattle.trie_update.specs.InHand.{IsInHand};
-ghost use Rattle.trie_update.specs.Batches.{AreInOrder};
-ghost use Rattle.trie_update.specs.Rooms.{LeavesRoom, AllFit, AreChanges, AreChanged};
+ghost use Rattle.trie_update.specs.Premises.{MayChangeMap};
+ghost use Rattle.trie_update.specs.Rooms.{LeavesRoom, AreChanged};
 
 use crate::change::Change;
 use crate::hand::{Changes, release_changes};
@@ -30,17 +30,14 @@ fn pair_changes<M: Mix, W: Ledger>(
     interns: &mut Steps<W>,
 ) -> Result<(), Memory>
     requires none { changes.old.items ≡ [] }
-    requires fits { AllFit context.old 1 old.now }
-    requires order { AreInOrder pair_tuple pairs.now }
-    requires change { AreChanges change context.old 1 old.now (pairs_of pairs.now) }
+    requires entries { MayChangeMap change context.old 1 pair_tuple old.now pairs.now }
     requires room { LeavesRoom context.old (length pairs.now) }
     ensures rise { KeysRise changes.new.items }
     ensures changed { OnOk result (AreChanged change context.old context.new 1 old.now (pairs_of pairs.now) (changed old.now changes.new.items)) }
     ensures held { IsInHand M.mixed context.old context.new (changes_hold 1 changes.new.items) (length pairs.now) }
     ensures ticks { interns.new ≤ interns.old + length pairs.now }
 {
-    // This call tells the proof that the tables are kept.
-    context.tables();
+    context.is_kept();
     each_run!(pairs, changes, pair_run, (key, run) => {
         change_keys::<M, W>(alloc, context, change, old.get(key), run, interns)
     })
@@ -57,17 +54,14 @@ pub fn change_pair_map<M: Mix, W: Ledger, V: Ledger>(
     interns: &mut Steps<W>,
     retains: &mut Steps<V>,
 ) -> Result<EdgeMap, Memory>
-    requires fits { AllFit context.old 1 old.now }
-    requires order { AreInOrder pair_tuple pairs.now }
-    requires change { AreChanges change context.old 1 old.now (pairs_of pairs.now) }
-    requires room { LeavesRoom context.old (pairs_room (length pairs.now)) }
+    requires entries { MayChangeMap change context.old 1 pair_tuple old.now pairs.now }
+    requires room { LeavesRoom context.old (keys_room pairs.now) }
     ensures changed { IfOk result (AreChanged change context.old context.new 1 old.now (pairs_of pairs.now)) }
-    ensures held { IfOk result (λ m. IsInHand M.mixed context.old context.new (map_hold 1 m) (pairs_room (length pairs.now))) }
+    ensures held { IfOk result (λ m. IsInHand M.mixed context.old context.new (map_hold 1 m) (keys_room pairs.now)) }
     ensures kept { OnErr result (context.new ≡ context.old) }
     ensures ticks { interns.new ≤ interns.old + length pairs.now }
 {
-    // This call tells the proof that the tables are kept.
-    context.tables();
+    context.is_kept();
     let mut changes = Vec::new(alloc);
     changed_map!(
         context,

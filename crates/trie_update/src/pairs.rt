@@ -2,7 +2,6 @@
 ghost use Rattle.std.specs.Prelude.{◌≡◌, ℕ, ◌+◌, ◌*◌, ◌<◌, ◌≤◌, ◌^◌, IfSome, IfOk, OnErr, length};
 ghost use Rattle.std.specs.Ordering.{nat_cmp};
 ghost use Rattle.std.specs.FinSet as set;
-ghost use Rattle.hypertrie_model.specs.Changes.{IsChange};
 ghost use Rattle.hypertrie_model.specs.IdSets.{IdSet};
 ghost use Rattle.hypertrie_model.specs.Sets.{single};
 ghost use Rattle.trie_depth.specs.declared.id.Pair.{Pair};
@@ -11,11 +10,11 @@ ghost use Rattle.trie_node.specs.declared.node.Node.{Node};
 ghost use Rattle.trie_node.specs.Sets.{set_hash};
 ghost use Rattle.trie_context.specs.FitEdges.{set_at, StandsAt};
 ghost use Rattle.trie_context.specs.declared.tables.Tables.{Tables};
-ghost use Rattle.trie_update.specs.After.{pairs_after, edge_hold, map_hold, pairs_room, run_room};
+ghost use Rattle.trie_update.specs.After.{pairs_after, edge_hold, map_hold, rest_room, run_room};
 ghost use Rattle.trie_update.specs.InHand.{IsInHand};
-ghost use Rattle.trie_update.specs.Batches.{set_of_entries, AreInOrder, trip_rest};
-ghost use Rattle.trie_update.specs.Changes.{grows};
+ghost use Rattle.trie_update.specs.Batches.{trip_rest};
 ghost use Rattle.trie_update.specs.Nodes.{ArePairParts, IsPairNodeOf};
+ghost use Rattle.trie_update.specs.Premises.{MayChangeEdge};
 ghost use Rattle.trie_update.specs.Rooms.{LeavesRoom, FitsSome, AreSlicesAt};
 
 use crate::batch::pairs_by_key;
@@ -83,12 +82,10 @@ fn change_pair_position<M: Mix, W: Ledger, V: Ledger>(
     retains: &mut Steps<V>,
 ) -> Result<EdgeMap, Memory>
     requires position { position < 2 }
-    requires fits { FitsSome context.old 2 old }
-    requires order { AreInOrder trip_rest run.now }
-    requires change { IsChange (grows change) (set_at context.old 2 old) (set_of_entries trip_rest run.now) }
-    requires room { LeavesRoom context.old (pairs_room (length run.now)) }
+    requires run { MayChangeEdge change context.old 2 trip_rest old run.now }
+    requires room { LeavesRoom context.old (rest_room run.now) }
     ensures slices { IfOk result (AreSlicesAt context.new 1 (pairs_after change context.old old run.now) position) }
-    ensures held { IfOk result (λ m. IsInHand M.mixed context.old context.new (map_hold 1 m) (pairs_room (length run.now))) }
+    ensures held { IfOk result (λ m. IsInHand M.mixed context.old context.new (map_hold 1 m) (rest_room run.now)) }
     ensures kept { OnErr result (context.new ≡ context.old) }
     ensures ticks { interns.new ≤ interns.old + length run.now }
 {
@@ -140,8 +137,7 @@ fn put_pair<M: Mix, W: Ledger>(
     ensures kept { OnErr result (context.new ≡ context.old) }
     ensures ticks { interns.new ≡ interns.old + 1 }
 {
-    // This call tells the proof that the tables are kept.
-    let _tables = context.tables();
+    context.is_kept();
     let held = context.intern::<L2, W>(node, interns)?;
     Ok(Some(held.into_edge()))
 }
@@ -156,19 +152,16 @@ fn change_many_pairs<M: Mix, W: Ledger, V: Ledger>(
     interns: &mut Steps<W>,
     retains: &mut Steps<V>,
 ) -> Result<Option<Edge>, Memory>
-    requires fits { FitsSome context.old 2 old }
+    requires run { MayChangeEdge change context.old 2 trip_rest old run.now }
     requires some { 1 ≤ length run.now }
-    requires order { AreInOrder trip_rest run.now }
-    requires change { IsChange (grows change) (set_at context.old 2 old) (set_of_entries trip_rest run.now) }
-    requires room { LeavesRoom context.old (run_room (length run.now)) }
+    requires room { LeavesRoom context.old (run_room run.now) }
     requires size { set.len (pairs_after change context.old old run.now) < 2 ^ 64 }
     ensures stands { IfOk result (StandsAt context.new 2 (pairs_after change context.old old run.now)) }
-    ensures held { IfOk result (λ e. IsInHand M.mixed context.old context.new (edge_hold 2 e) (run_room (length run.now))) }
+    ensures held { IfOk result (λ e. IsInHand M.mixed context.old context.new (edge_hold 2 e) (run_room run.now)) }
     ensures kept { OnErr result (context.new ≡ context.old) }
     ensures ticks { interns.new ≤ interns.old + 3 * length run.now }
 {
-    // This call tells the proof that the tables are kept.
-    let _tables = context.tables();
+    context.is_kept();
     let (size, hash) = pair_figures(context, old);
     let size = changed_size(change, size, run.len() as u64);
     let hash = toggled_pairs::<M>(hash, run);
@@ -199,14 +192,12 @@ pub fn change_pairs<M: Mix, W: Ledger, V: Ledger>(
     interns: &mut Steps<W>,
     retains: &mut Steps<V>,
 ) -> Result<Option<Edge>, Memory>
-    requires fits { FitsSome context.old 2 old }
+    requires run { MayChangeEdge change context.old 2 trip_rest old run.now }
     requires some { 1 ≤ length run.now }
-    requires order { AreInOrder trip_rest run.now }
-    requires change { IsChange (grows change) (set_at context.old 2 old) (set_of_entries trip_rest run.now) }
-    requires room { LeavesRoom context.old (run_room (length run.now)) }
+    requires room { LeavesRoom context.old (run_room run.now) }
     requires size { set.len (pairs_after change context.old old run.now) < 2 ^ 64 }
     ensures stands { IfOk result (StandsAt context.new 2 (pairs_after change context.old old run.now)) }
-    ensures held { IfOk result (λ e. IsInHand M.mixed context.old context.new (edge_hold 2 e) (run_room (length run.now))) }
+    ensures held { IfOk result (λ e. IsInHand M.mixed context.old context.new (edge_hold 2 e) (run_room run.now)) }
     ensures kept { OnErr result (context.new ≡ context.old) }
     ensures ticks { interns.new ≤ interns.old + 3 * length run.now }
 {

@@ -3,10 +3,10 @@ ghost use Rattle.std.specs.Prelude.{◌≡◌, ◌+◌, ◌*◌, ◌≤◌, ◌^
 ghost use Rattle.edge_map.specs.Entries.{KeysRise};
 ghost use Rattle.edge_map.specs.Edges.{changed};
 ghost use Rattle.trie_depth.specs.Tuples.{trip_tuple};
-ghost use Rattle.trie_update.specs.After.{triples_of, map_hold, changes_hold, run_room, triples_room};
+ghost use Rattle.trie_update.specs.After.{triples_of, map_hold, changes_hold, run_room, map_room};
 ghost use Rattle.trie_update.specs.InHand.{IsInHand};
-ghost use Rattle.trie_update.specs.Batches.{AreInOrder};
-ghost use Rattle.trie_update.specs.Rooms.{LeavesRoom, AllFit, AreChanges, AreChanged, AreSmallAfter};
+ghost use Rattle.trie_update.specs.Premises.{MayChangeMap};
+ghost use Rattle.trie_update.specs.Rooms.{LeavesRoom, AreChanged, AreSmallAfter};
 
 use crate::change::Change;
 use crate::hand::{Changes, release_changes};
@@ -31,18 +31,15 @@ fn triple_changes<M: Mix, W: Ledger, V: Ledger>(
     retains: &mut Steps<V>,
 ) -> Result<(), Memory>
     requires none { changes.old.items ≡ [] }
-    requires fits { AllFit context.old 2 old.now }
-    requires order { AreInOrder trip_tuple triples.now }
-    requires change { AreChanges change context.old 2 old.now (triples_of triples.now) }
+    requires entries { MayChangeMap change context.old 2 trip_tuple old.now triples.now }
     requires size { AreSmallAfter change context.old 2 old.now (triples_of triples.now) }
-    requires room { LeavesRoom context.old (run_room (length triples.now)) }
+    requires room { LeavesRoom context.old (run_room triples.now) }
     ensures rise { KeysRise changes.new.items }
     ensures changed { OnOk result (AreChanged change context.old context.new 2 old.now (triples_of triples.now) (changed old.now changes.new.items)) }
-    ensures held { IsInHand M.mixed context.old context.new (changes_hold 2 changes.new.items) (run_room (length triples.now)) }
+    ensures held { IsInHand M.mixed context.old context.new (changes_hold 2 changes.new.items) (run_room triples.now) }
     ensures ticks { interns.new ≤ interns.old + 3 * length triples.now }
 {
-    // This call tells the proof that the tables are kept.
-    context.tables();
+    context.is_kept();
     each_run!(triples, changes, triple_run, (key, run) => {
         change_pairs::<M, W, V>(alloc, context, change, old.get(key), run, interns, retains)
     })
@@ -59,18 +56,15 @@ pub fn change_triple_map<M: Mix, W: Ledger, V: Ledger>(
     interns: &mut Steps<W>,
     retains: &mut Steps<V>,
 ) -> Result<EdgeMap, Memory>
-    requires fits { AllFit context.old 2 old.now }
-    requires order { AreInOrder trip_tuple triples.now }
-    requires change { AreChanges change context.old 2 old.now (triples_of triples.now) }
+    requires entries { MayChangeMap change context.old 2 trip_tuple old.now triples.now }
     requires size { AreSmallAfter change context.old 2 old.now (triples_of triples.now) }
-    requires room { LeavesRoom context.old (triples_room (length triples.now)) }
+    requires room { LeavesRoom context.old (map_room triples.now) }
     ensures changed { IfOk result (AreChanged change context.old context.new 2 old.now (triples_of triples.now)) }
-    ensures held { IfOk result (λ m. IsInHand M.mixed context.old context.new (map_hold 2 m) (triples_room (length triples.now))) }
+    ensures held { IfOk result (λ m. IsInHand M.mixed context.old context.new (map_hold 2 m) (map_room triples.now)) }
     ensures kept { OnErr result (context.new ≡ context.old) }
     ensures ticks { interns.new ≤ interns.old + 3 * length triples.now }
 {
-    // This call tells the proof that the tables are kept.
-    context.tables();
+    context.is_kept();
     let mut changes = Vec::new(alloc);
     changed_map!(
         context,

@@ -2,17 +2,15 @@
 ghost use Rattle.std.specs.Prelude.{◌≡◌, ℕ, ◌+◌, ◌*◌, ◌<◌, ◌≤◌, ◌^◌, IfOk, OnErr, length};
 ghost use Rattle.std.specs.Ordering.{nat_cmp};
 ghost use Rattle.std.specs.FinSet as set;
-ghost use Rattle.hypertrie_model.specs.Changes.{IsChange};
 ghost use Rattle.hypertrie_model.specs.Sets.{single};
 ghost use Rattle.trie_depth.specs.Tuples.{trip_tuple};
-ghost use Rattle.trie_node.specs.Sets.{edges_in, set_hash};
+ghost use Rattle.trie_node.specs.Sets.{set_hash};
 ghost use Rattle.trie_context.specs.Holds.{holds_of, nothing, CountsRiseBy, RowsStay};
 ghost use Rattle.trie_context.specs.Kept.{AreMoved};
 ghost use Rattle.trie_context.specs.Roots.{root_set, root_hold};
-ghost use Rattle.trie_update.specs.After.{triples_of, triples_after, three_maps, map_hold, triples_room, graph_room};
+ghost use Rattle.trie_update.specs.After.{row_after, map_hold, map_room, maps_room, graph_room, three_edges, three_maps};
 ghost use Rattle.trie_update.specs.InHand.{IsInHand};
-ghost use Rattle.trie_update.specs.Batches.{IsOnce};
-ghost use Rattle.trie_update.specs.Changes.{grows};
+ghost use Rattle.trie_update.specs.Premises.{MayChangeRow};
 ghost use Rattle.trie_update.specs.Rooms.{LeavesRoom, AllFit, AreSlicesAt, row_set_at, IsRowThere, first_set};
 
 use crate::batch::triples_by_key;
@@ -74,13 +72,10 @@ fn change_triple_position<M: Mix, W: Ledger, V: Ledger>(
     retains: &mut Steps<V>,
 ) -> Result<EdgeMap, Memory>
     requires position { position < 3 }
-    requires there { IsRowThere context.old old }
-    requires once { IsOnce trip_tuple batch.now }
-    requires change { IsChange (grows change) (row_set_at context.old old) (triples_of batch.now) }
-    requires size { set.len (triples_after change context.old old batch.now) < 2 ^ 64 }
-    requires room { LeavesRoom context.old (triples_room (length batch.now)) }
-    ensures slices { IfOk result (AreSlicesAt context.new 2 (triples_after change context.old old batch.now) position) }
-    ensures held { IfOk result (λ m. IsInHand M.mixed context.old context.new (map_hold 2 m) (triples_room (length batch.now))) }
+    requires batch { MayChangeRow change context.old old batch.now }
+    requires room { LeavesRoom context.old (map_room batch.now) }
+    ensures slices { IfOk result (AreSlicesAt context.new 2 (row_after change context.old old batch.now) position) }
+    ensures held { IfOk result (λ m. IsInHand M.mixed context.old context.new (map_hold 2 m) (map_room batch.now)) }
     ensures kept { OnErr result (context.new ≡ context.old) }
     ensures ticks { interns.new ≤ interns.old + 3 * length batch.now }
 {
@@ -99,20 +94,16 @@ fn change_positions<M: Mix, W: Ledger, V: Ledger>(
     interns: &mut Steps<W>,
     retains: &mut Steps<V>,
 ) -> Result<(EdgeMap, EdgeMap, EdgeMap), Memory>
-    requires there { IsRowThere context.old old }
-    requires once { IsOnce trip_tuple batch.now }
-    requires change { IsChange (grows change) (row_set_at context.old old) (triples_of batch.now) }
-    requires size { set.len (triples_after change context.old old batch.now) < 2 ^ 64 }
-    requires room { LeavesRoom context.old (3 * triples_room (length batch.now)) }
-    ensures first { IfOk result (λ m. AreSlicesAt context.new 2 (triples_after change context.old old batch.now) 0 m.0) }
-    ensures second { IfOk result (λ m. AreSlicesAt context.new 2 (triples_after change context.old old batch.now) 1 m.1) }
-    ensures third { IfOk result (λ m. AreSlicesAt context.new 2 (triples_after change context.old old batch.now) 2 m.2) }
-    ensures held { IfOk result (λ m. IsInHand M.mixed context.old context.new (three_maps m.0 m.1 m.2) (3 * triples_room (length batch.now))) }
+    requires batch { MayChangeRow change context.old old batch.now }
+    requires room { LeavesRoom context.old (maps_room batch.now) }
+    ensures first { IfOk result (λ m. AreSlicesAt context.new 2 (row_after change context.old old batch.now) 0 m.0) }
+    ensures second { IfOk result (λ m. AreSlicesAt context.new 2 (row_after change context.old old batch.now) 1 m.1) }
+    ensures third { IfOk result (λ m. AreSlicesAt context.new 2 (row_after change context.old old batch.now) 2 m.2) }
+    ensures held { IfOk result (λ m. IsInHand M.mixed context.old context.new (three_maps m.0 m.1 m.2) (maps_room batch.now)) }
     ensures kept { OnErr result (context.new ≡ context.old) }
     ensures ticks { interns.new ≤ interns.old + 9 * length batch.now }
 {
-    // This call tells the proof that the tables are kept.
-    context.tables();
+    context.is_kept();
     let first = change_triple_position(alloc, context, change, old, batch, 0, interns, retains)?;
     let second = match change_triple_position(
         alloc, context, change, old, batch, 1, interns, retains,
@@ -158,7 +149,7 @@ fn release_positions<M: Mix>(
     second: &EdgeMap,
     third: &EdgeMap,
 )
-    requires { (r : ℕ) → edges_in first.now r + (edges_in second.now r + edges_in third.now r) ≤ holds_of context.old 2 r }
+    requires { (r : ℕ) → three_edges first.now second.now third.now r ≤ holds_of context.old 2 r }
     ensures moved { AreMoved M.mixed context.old context.new nothing (three_maps first.now second.now third.now) }
     ensures counts { CountsRiseBy context.old context.new nothing }
     ensures came { RowsStay context.new context.old }
@@ -178,18 +169,14 @@ pub fn change_root<M: Mix, W: Ledger, V: Ledger>(
     interns: &mut Steps<W>,
     retains: &mut Steps<V>,
 ) -> Result<Root, Memory>
-    requires there { IsRowThere context.old old }
-    requires once { IsOnce trip_tuple batch.now }
-    requires change { IsChange (grows change) (row_set_at context.old old) (triples_of batch.now) }
-    requires size { set.len (triples_after change context.old old batch.now) < 2 ^ 64 }
-    requires room { LeavesRoom context.old (graph_room (length batch.now)) }
-    ensures set { IfOk result (λ root. root_set context.new root ≡ triples_after change context.old old batch.now) }
-    ensures held { IfOk result (λ root. IsInHand M.mixed context.old context.new (root_hold root) (graph_room (length batch.now))) }
+    requires batch { MayChangeRow change context.old old batch.now }
+    requires room { LeavesRoom context.old (graph_room batch.now) }
+    ensures set { IfOk result (λ root. root_set context.new root ≡ row_after change context.old old batch.now) }
+    ensures held { IfOk result (λ r. IsInHand M.mixed context.old context.new (root_hold r) (graph_room batch.now)) }
     ensures kept { OnErr result (context.new ≡ context.old) }
     ensures ticks { interns.new ≤ interns.old + (9 * length batch.now + 1) }
 {
-    // This call tells the proof that the tables are kept.
-    context.tables();
+    context.is_kept();
     let (size, hash) = triple_figures(context, old);
     let size = changed_size(change, size, batch.len() as u64);
     let hash = toggled_triples::<M>(hash, batch);

@@ -10,7 +10,7 @@ ghost use Rattle.trie_context.specs.Kept.{AreMoved};
 ghost use Rattle.trie_context.specs.RootShape.{OnlyRootHeld};
 ghost use Rattle.trie_context.specs.Roots.{root_set, root_hold, IsHeld};
 ghost use Rattle.trie_context.specs.Shape.{HasShape};
-ghost use Rattle.trie_update.specs.After.{triples_of, one_after, graph_after, graph_room};
+ghost use Rattle.trie_update.specs.After.{triples_of, one_after, graph_after, one_room, with_batch, without_batch};
 ghost use Rattle.trie_update.specs.InHand.{IsInHand};
 ghost use Rattle.trie_update.specs.Batches.{IsOnce};
 ghost use Rattle.trie_update.specs.Changes.{grows};
@@ -37,14 +37,13 @@ fn change_one<M: Mix, W: Ledger, V: Ledger>(
     requires once { IsOnce trip_tuple batch.now }
     requires change { IsChange (grows change) (single nat_cmp (trip_tuple triple)) (triples_of batch.now) }
     requires size { length batch.now < 2 ^ 63 }
-    requires room { LeavesRoom context.old (graph_room (length batch.now + 1)) }
+    requires room { LeavesRoom context.old (one_room batch.now) }
     ensures set { IfOk result (λ root. root_set context.new root ≡ one_after change triple batch.now) }
-    ensures held { IfOk result (λ root. IsInHand M.mixed context.old context.new (root_hold root) (graph_room (length batch.now + 1))) }
+    ensures held { IfOk result (λ r. IsInHand M.mixed context.old context.new (root_hold r) (one_room batch.now)) }
     ensures kept { OnErr result (context.new ≡ context.old) }
     ensures ticks { interns.new ≤ interns.old + (9 * length batch.now + 10) }
 {
-    // This call tells the proof that the tables are kept.
-    context.tables();
+    context.is_kept();
     match change {
         Change::Shrink if batch.is_empty() => Ok(Root::One(triple)),
         Change::Shrink => Ok(Root::Empty),
@@ -113,8 +112,7 @@ fn update<M: Mix, W: Ledger, V: Ledger>(
     ensures root { OnErr result (root.new ≡ root.old) }
     ensures ticks { interns.new ≤ interns.old + (9 * length batch.now + 10) }
 {
-    // This call tells the proof that the tables are kept.
-    context.tables();
+    context.is_kept();
     let new = change_graph(alloc, context, change, root, batch, interns, retains)?;
     match mem::replace(root, new) {
         Root::Many(held) => context.release(held),
@@ -136,8 +134,8 @@ pub fn grow<M: Mix, W: Ledger, V: Ledger>(
     requires once { IsOnce trip_tuple batch.now }
     requires new { IsChange true (root_set context.old root.old) (triples_of batch.now) }
     requires counts { CountsUpTo context.old (2 ^ 96) }
-    requires size { set.len (set.union (root_set context.old root.old) (triples_of batch.now)) ≤ 536870912 }
-    ensures set { OnOk result (root_set context.new root.new ≡ set.union (root_set context.old root.old) (triples_of batch.now)) }
+    requires size { set.len (with_batch context.old root.old batch.now) ≤ 536870912 }
+    ensures set { OnOk result (root_set context.new root.new ≡ with_batch context.old root.old batch.now) }
     ensures held { IsHeld context.new root.new }
     ensures moved { OnOk result (AreMoved M.mixed context.old context.new (root_hold root.new) (root_hold root.old)) }
     ensures shape { OnOk result (OnlyRootHeld context.old root.old → HasShape context.new (root_set context.new root.new)) }
@@ -163,8 +161,8 @@ pub fn shrink<M: Mix, W: Ledger, V: Ledger>(
     requires once { IsOnce trip_tuple batch.now }
     requires there { IsChange false (root_set context.old root.old) (triples_of batch.now) }
     requires counts { CountsUpTo context.old (2 ^ 96) }
-    requires size { set.len (set.union (root_set context.old root.old) (triples_of batch.now)) ≤ 536870912 }
-    ensures set { OnOk result (root_set context.new root.new ≡ set.difference (root_set context.old root.old) (triples_of batch.now)) }
+    requires size { set.len (with_batch context.old root.old batch.now) ≤ 536870912 }
+    ensures set { OnOk result (root_set context.new root.new ≡ without_batch context.old root.old batch.now) }
     ensures held { IsHeld context.new root.new }
     ensures moved { OnOk result (AreMoved M.mixed context.old context.new (root_hold root.new) (root_hold root.old)) }
     ensures shape { OnOk result (OnlyRootHeld context.old root.old → HasShape context.new (root_set context.new root.new)) }

@@ -7,7 +7,8 @@ unfolding clap_on_literals
 returns c = record {
   nothing = refl;
   sort = refl;
-  limits = refl;
+  triples = refl;
+  bytes = refl;
   help = refl;
   short_help = refl;
   help_first = refl;

@@ -9,7 +9,7 @@ use Rattle.trie_update.proofs.hand.release_changes.Goals.{in-Some, in_default}
 
 pub loop-edge-init : goal.loop-edge-init
 loop-edge-init g c = (
-  hand_begins g.M.Mix.mixed (g.L.Level.DEPTH - 1) c.args.changes.now c.args.context.now c.tables-tables.ensures.kept,
+  hand_begins g.M.Mix.mixed (g.L.Level.DEPTH - 1) c.args.changes.now c.args.context.now c.is_kept.ensures,
   λ d r. omega arith,
   rows_as_before c.args.context.now,
 )

@@ -18,18 +18,19 @@ use Rattle.trie_update.proofs.pairs.change_many_pairs.Goals as goal
 
 pub changed_size-size-requires : goal.changed_size-size-requires
 changed_size-size-requires g c =
-    has_size c.args.change (set_at c.args.context.now 2 c.args.old) (set_of_entries trip_rest c.args.run.now) c.requires.change c.requires.size c.pair_figures-size.result.0 (length c.args.run.now) c.pair_figures-size.ensures.size (order_once trip_rest c.args.run.now c.requires.order)
+    has_size c.args.change (set_at c.args.context.now 2 c.args.old) (set_of_entries trip_rest c.args.run.now) c.requires.run.change c.requires.size c.pair_figures-size.result.0 (length c.args.run.now) c.pair_figures-size.ensures.size (order_once trip_rest c.args.run.now c.requires.run.order)
 
 pub toggled_pairs-hash-requires : goal.toggled_pairs-hash-requires
-toggled_pairs-hash-requires g c = order_once trip_rest c.args.run.now c.requires.order
+toggled_pairs-hash-requires g c = order_once trip_rest c.args.run.now c.requires.run.order
 
-pub change_pair_position-requires-2-clause-fits : goal.change_pair_position-requires-2-clause-fits
-change_pair_position-requires-2-clause-fits g c = fits_stay g.M.Mix.mixed c.args.context.now c.change_pair_position.new.context c.tables-tables.ensures.kept c.in_ok-first.ensures.held.stay 2 c.args.old c.requires.fits
-
-pub change_pair_position-requires-2-clause-change : goal.change_pair_position-requires-2-clause-change
-change_pair_position-requires-2-clause-change g c =
-    subst (λ S. IsChange (grows c.args.change) S (set_of_entries trip_rest c.args.run.now))
-    (sym (set_at_stays g.M.Mix.mixed c.args.context.now c.change_pair_position.new.context c.tables-tables.ensures.kept c.in_ok-first.ensures.held.stay 2 c.args.old c.requires.fits)) c.requires.change
+pub change_pair_position-requires-2-clause-run : goal.change_pair_position-requires-2-clause-run
+change_pair_position-requires-2-clause-run g c =
+    record {
+      fits = fits_stay g.M.Mix.mixed c.args.context.now c.change_pair_position.new.context c.is_kept.ensures c.in_ok-first.ensures.held.stay 2 c.args.old c.requires.run.fits;
+      order = c.requires.run.order;
+      change = subst (λ S. IsChange (grows c.args.change) S (set_of_entries trip_rest c.args.run.now))
+          (sym (set_at_stays g.M.Mix.mixed c.args.context.now c.change_pair_position.new.context c.is_kept.ensures c.in_ok-first.ensures.held.stay 2 c.args.old c.requires.run.fits)) c.requires.run.change;
+    }
 
 pub release_map-requires : goal.release_map-requires
 release_map-requires g c = record {
@@ -39,7 +40,7 @@ release_map-requires g c = record {
 
 pub returns-in-Err-clause-kept : goal.returns-in-Err-clause-kept
 returns-in-Err-clause-kept g c =
-    given_back g.M.Mix.mixed c.args.context.now c.change_pair_position.new.context c.release_map.new.self c.tables-tables.ensures.kept 1 (edges_in c.in_ok-first.first) (edges_in c.in_ok-first.first)
+    given_back g.M.Mix.mixed c.args.context.now c.change_pair_position.new.context c.release_map.new.self c.is_kept.ensures 1 (edges_in c.in_ok-first.first) (edges_in c.in_ok-first.first)
     c.in_ok-first.ensures.held.moved c.in_ok-first.ensures.held.stay
     (subst (λ u. AreMoved g.M.Mix.mixed u c.release_map.new.self nothing (at_depth 1 (edges_in c.in_ok-first.first))) c.in-Err.ensures.kept c.release_map.ensures.moved)
     (subst (λ u. RowsStay c.release_map.new.self u) c.in-Err.ensures.kept c.release_map.ensures.came)
@@ -51,7 +52,7 @@ returns-then-size-eq0-clause-stands g c =
     let H = set_at t 2 c.args.old in
     let B = set_of_entries trip_rest c.args.run.now in
     let G = after (grows c.args.change) H B in
-    let sized : c.changed_size-size.result ≡ set.len G = c.changed_size-size.ensures ∙ size_is c.args.change H B c.requires.change c.pair_figures-size.result.0 (length c.args.run.now) c.pair_figures-size.ensures.size (order_once trip_rest c.args.run.now c.requires.order) in
+    let sized : c.changed_size-size.result ≡ set.len G = c.changed_size-size.ensures ∙ size_is c.args.change H B c.requires.run.change c.pair_figures-size.result.0 (length c.args.run.now) c.pair_figures-size.ensures.size (order_once trip_rest c.args.run.now c.requires.run.order) in
     set.empty_of_len G (sym sized ∙ c.if-size-eq0.true)
 
 pub returns-then-size-eq0-clause-held : goal.returns-then-size-eq0-clause-held
@@ -60,10 +61,10 @@ returns-then-size-eq0-clause-held g c =
     let H = set_at t 2 c.args.old in
     let B = set_of_entries trip_rest c.args.run.now in
     let G = after (grows c.args.change) H B in
-    let sized : c.changed_size-size.result ≡ set.len G = c.changed_size-size.ensures ∙ size_is c.args.change H B c.requires.change c.pair_figures-size.result.0 (length c.args.run.now) c.pair_figures-size.ensures.size (order_once trip_rest c.args.run.now c.requires.order) in
+    let sized : c.changed_size-size.result ≡ set.len G = c.changed_size-size.ensures ∙ size_is c.args.change H B c.requires.run.change c.pair_figures-size.result.0 (length c.args.run.now) c.pair_figures-size.ensures.size (order_once trip_rest c.args.run.now c.requires.run.order) in
     let u = c.change_pair_position-2.new.context in
-    let kept = c.tables-tables.ensures.kept in
-    let made = both g.M.Mix.mixed t kept c.change_pair_position.new.context u c.args.change c.args.old c.requires.fits B c.in_ok-first.first c.in-Ok.second
+    let kept = c.is_kept.ensures in
+    let made = both g.M.Mix.mixed t kept c.change_pair_position.new.context u c.args.change c.args.old c.requires.run.fits B c.in_ok-first.first c.in-Ok.second
     c.in_ok-first.ensures.slices c.in_ok-first.ensures.held.moved c.in_ok-first.ensures.held.stay c.in-Ok.ensures.slices c.in-Ok.ensures.held.moved c.in-Ok.ensures.held.stay in
     record {
       moved = none_moved g.M.Mix.mixed t kept u G c.in_ok-first.first c.in-Ok.second made (set.empty_of_len G (sym sized ∙ c.if-size-eq0.true));
@@ -77,14 +78,14 @@ intern-requires-clause-form g c =
     let H = set_at t 2 c.args.old in
     let B = set_of_entries trip_rest c.args.run.now in
     let G = after (grows c.args.change) H B in
-    let sized : c.changed_size-size.result ≡ set.len G = c.changed_size-size.ensures ∙ size_is c.args.change H B c.requires.change c.pair_figures-size.result.0 (length c.args.run.now) c.pair_figures-size.ensures.size (order_once trip_rest c.args.run.now c.requires.order) in
+    let sized : c.changed_size-size.result ≡ set.len G = c.changed_size-size.ensures ∙ size_is c.args.change H B c.requires.run.change c.pair_figures-size.result.0 (length c.args.run.now) c.pair_figures-size.ensures.size (order_once trip_rest c.args.run.now c.requires.run.order) in
     let u = c.change_pair_position-2.new.context in
-    let kept = c.tables-tables.ensures.kept in
-    let made = both g.M.Mix.mixed t kept c.change_pair_position.new.context u c.args.change c.args.old c.requires.fits B c.in_ok-first.first c.in-Ok.second
+    let kept = c.is_kept.ensures in
+    let made = both g.M.Mix.mixed t kept c.change_pair_position.new.context u c.args.change c.args.old c.requires.run.fits B c.in_ok-first.first c.in-Ok.second
     c.in_ok-first.ensures.slices c.in_ok-first.ensures.held.moved c.in_ok-first.ensures.held.stay c.in-Ok.ensures.slices c.in-Ok.ensures.held.moved c.in-Ok.ensures.held.stay in
     let some : 1 ≤ set.len G = let not = c.if-size-eq0.false in omega arith in
-    let hashed = c.toggled_pairs-hash.ensures ∙ hash_is g.M.Mix.mixed 2 (grows c.args.change) H B c.requires.change c.pair_figures-size.result.1 c.pair_figures-size.ensures.hash in
-    let parts = pair_parts g.M.Mix.mixed t kept u G c.in_ok-first.first c.in-Ok.second made c.changed_size-size.result c.toggled_pairs-hash.result (changed_deep g.M.Mix.mixed t kept c.args.change c.args.old c.requires.fits c.args.run.now) sized hashed in
+    let hashed = c.toggled_pairs-hash.ensures ∙ hash_is g.M.Mix.mixed 2 (grows c.args.change) H B c.requires.run.change c.pair_figures-size.result.1 c.pair_figures-size.ensures.hash in
+    let parts = pair_parts g.M.Mix.mixed t kept u G c.in_ok-first.first c.in-Ok.second made c.changed_size-size.result c.toggled_pairs-hash.result (changed_deep g.M.Mix.mixed t kept c.args.change c.args.old c.requires.run.fits c.args.run.now) sized hashed in
     let is = c.pair_node-node.ensures (set_of u 1) G some parts in
     is.formed
 
@@ -94,14 +95,14 @@ intern-requires-clause-held g c =
     let H = set_at t 2 c.args.old in
     let B = set_of_entries trip_rest c.args.run.now in
     let G = after (grows c.args.change) H B in
-    let sized : c.changed_size-size.result ≡ set.len G = c.changed_size-size.ensures ∙ size_is c.args.change H B c.requires.change c.pair_figures-size.result.0 (length c.args.run.now) c.pair_figures-size.ensures.size (order_once trip_rest c.args.run.now c.requires.order) in
+    let sized : c.changed_size-size.result ≡ set.len G = c.changed_size-size.ensures ∙ size_is c.args.change H B c.requires.run.change c.pair_figures-size.result.0 (length c.args.run.now) c.pair_figures-size.ensures.size (order_once trip_rest c.args.run.now c.requires.run.order) in
     let u = c.change_pair_position-2.new.context in
-    let kept = c.tables-tables.ensures.kept in
-    let made = both g.M.Mix.mixed t kept c.change_pair_position.new.context u c.args.change c.args.old c.requires.fits B c.in_ok-first.first c.in-Ok.second
+    let kept = c.is_kept.ensures in
+    let made = both g.M.Mix.mixed t kept c.change_pair_position.new.context u c.args.change c.args.old c.requires.run.fits B c.in_ok-first.first c.in-Ok.second
     c.in_ok-first.ensures.slices c.in_ok-first.ensures.held.moved c.in_ok-first.ensures.held.stay c.in-Ok.ensures.slices c.in-Ok.ensures.held.moved c.in-Ok.ensures.held.stay in
     let some : 1 ≤ set.len G = let not = c.if-size-eq0.false in omega arith in
-    let hashed = c.toggled_pairs-hash.ensures ∙ hash_is g.M.Mix.mixed 2 (grows c.args.change) H B c.requires.change c.pair_figures-size.result.1 c.pair_figures-size.ensures.hash in
-    let parts = pair_parts g.M.Mix.mixed t kept u G c.in_ok-first.first c.in-Ok.second made c.changed_size-size.result c.toggled_pairs-hash.result (changed_deep g.M.Mix.mixed t kept c.args.change c.args.old c.requires.fits c.args.run.now) sized hashed in
+    let hashed = c.toggled_pairs-hash.ensures ∙ hash_is g.M.Mix.mixed 2 (grows c.args.change) H B c.requires.run.change c.pair_figures-size.result.1 c.pair_figures-size.ensures.hash in
+    let parts = pair_parts g.M.Mix.mixed t kept u G c.in_ok-first.first c.in-Ok.second made c.changed_size-size.result c.toggled_pairs-hash.result (changed_deep g.M.Mix.mixed t kept c.args.change c.args.old c.requires.run.fits c.args.run.now) sized hashed in
     let is = c.pair_node-node.ensures (set_of u 1) G some parts in
     node_held g.M.Mix.mixed t kept u G c.in_ok-first.first c.in-Ok.second made c.pair_node-node.result is
 
@@ -111,14 +112,14 @@ returns-in_err-held-clause-kept g c =
     let H = set_at t 2 c.args.old in
     let B = set_of_entries trip_rest c.args.run.now in
     let G = after (grows c.args.change) H B in
-    let sized : c.changed_size-size.result ≡ set.len G = c.changed_size-size.ensures ∙ size_is c.args.change H B c.requires.change c.pair_figures-size.result.0 (length c.args.run.now) c.pair_figures-size.ensures.size (order_once trip_rest c.args.run.now c.requires.order) in
+    let sized : c.changed_size-size.result ≡ set.len G = c.changed_size-size.ensures ∙ size_is c.args.change H B c.requires.run.change c.pair_figures-size.result.0 (length c.args.run.now) c.pair_figures-size.ensures.size (order_once trip_rest c.args.run.now c.requires.run.order) in
     let u = c.change_pair_position-2.new.context in
-    let kept = c.tables-tables.ensures.kept in
-    let made = both g.M.Mix.mixed t kept c.change_pair_position.new.context u c.args.change c.args.old c.requires.fits B c.in_ok-first.first c.in-Ok.second
+    let kept = c.is_kept.ensures in
+    let made = both g.M.Mix.mixed t kept c.change_pair_position.new.context u c.args.change c.args.old c.requires.run.fits B c.in_ok-first.first c.in-Ok.second
     c.in_ok-first.ensures.slices c.in_ok-first.ensures.held.moved c.in_ok-first.ensures.held.stay c.in-Ok.ensures.slices c.in-Ok.ensures.held.moved c.in-Ok.ensures.held.stay in
     let some : 1 ≤ set.len G = let not = c.if-size-eq0.false in omega arith in
-    let hashed = c.toggled_pairs-hash.ensures ∙ hash_is g.M.Mix.mixed 2 (grows c.args.change) H B c.requires.change c.pair_figures-size.result.1 c.pair_figures-size.ensures.hash in
-    let parts = pair_parts g.M.Mix.mixed t kept u G c.in_ok-first.first c.in-Ok.second made c.changed_size-size.result c.toggled_pairs-hash.result (changed_deep g.M.Mix.mixed t kept c.args.change c.args.old c.requires.fits c.args.run.now) sized hashed in
+    let hashed = c.toggled_pairs-hash.ensures ∙ hash_is g.M.Mix.mixed 2 (grows c.args.change) H B c.requires.run.change c.pair_figures-size.result.1 c.pair_figures-size.ensures.hash in
+    let parts = pair_parts g.M.Mix.mixed t kept u G c.in_ok-first.first c.in-Ok.second made c.changed_size-size.result c.toggled_pairs-hash.result (changed_deep g.M.Mix.mixed t kept c.args.change c.args.old c.requires.run.fits c.args.run.now) sized hashed in
     let is = c.pair_node-node.ensures (set_of u 1) G some parts in
     on_err _ c.from_residual-in_err-held.result (node_given g.M.Mix.mixed t kept u G c.in_ok-first.first c.in-Ok.second made c.pair_node-node.result is c.intern.new.self c.in_err-held.ensures.given c.in_err-held.ensures.came)
 
@@ -128,14 +129,14 @@ returns-clause-stands g c =
     let H = set_at t 2 c.args.old in
     let B = set_of_entries trip_rest c.args.run.now in
     let G = after (grows c.args.change) H B in
-    let sized : c.changed_size-size.result ≡ set.len G = c.changed_size-size.ensures ∙ size_is c.args.change H B c.requires.change c.pair_figures-size.result.0 (length c.args.run.now) c.pair_figures-size.ensures.size (order_once trip_rest c.args.run.now c.requires.order) in
+    let sized : c.changed_size-size.result ≡ set.len G = c.changed_size-size.ensures ∙ size_is c.args.change H B c.requires.run.change c.pair_figures-size.result.0 (length c.args.run.now) c.pair_figures-size.ensures.size (order_once trip_rest c.args.run.now c.requires.run.order) in
     let u = c.change_pair_position-2.new.context in
-    let kept = c.tables-tables.ensures.kept in
-    let made = both g.M.Mix.mixed t kept c.change_pair_position.new.context u c.args.change c.args.old c.requires.fits B c.in_ok-first.first c.in-Ok.second
+    let kept = c.is_kept.ensures in
+    let made = both g.M.Mix.mixed t kept c.change_pair_position.new.context u c.args.change c.args.old c.requires.run.fits B c.in_ok-first.first c.in-Ok.second
     c.in_ok-first.ensures.slices c.in_ok-first.ensures.held.moved c.in_ok-first.ensures.held.stay c.in-Ok.ensures.slices c.in-Ok.ensures.held.moved c.in-Ok.ensures.held.stay in
     let some : 1 ≤ set.len G = let not = c.if-size-eq0.false in omega arith in
-    let hashed = c.toggled_pairs-hash.ensures ∙ hash_is g.M.Mix.mixed 2 (grows c.args.change) H B c.requires.change c.pair_figures-size.result.1 c.pair_figures-size.ensures.hash in
-    let parts = pair_parts g.M.Mix.mixed t kept u G c.in_ok-first.first c.in-Ok.second made c.changed_size-size.result c.toggled_pairs-hash.result (changed_deep g.M.Mix.mixed t kept c.args.change c.args.old c.requires.fits c.args.run.now) sized hashed in
+    let hashed = c.toggled_pairs-hash.ensures ∙ hash_is g.M.Mix.mixed 2 (grows c.args.change) H B c.requires.run.change c.pair_figures-size.result.1 c.pair_figures-size.ensures.hash in
+    let parts = pair_parts g.M.Mix.mixed t kept u G c.in_ok-first.first c.in-Ok.second made c.changed_size-size.result c.toggled_pairs-hash.result (changed_deep g.M.Mix.mixed t kept c.args.change c.args.old c.requires.run.fits c.args.run.now) sized hashed in
     let is = c.pair_node-node.ensures (set_of u 1) G some parts in
     edge_stands g.M.Mix.mixed t kept u G c.in_ok-first.first c.in-Ok.second made c.pair_node-node.result is c.intern.new.self c.in_ok-held.held c.in_ok-held.ensures.there c.in_ok-held.ensures.stay some c.into_edge.result c.into_edge.ensures
 
@@ -145,14 +146,14 @@ returns-clause-held g c =
     let H = set_at t 2 c.args.old in
     let B = set_of_entries trip_rest c.args.run.now in
     let G = after (grows c.args.change) H B in
-    let sized : c.changed_size-size.result ≡ set.len G = c.changed_size-size.ensures ∙ size_is c.args.change H B c.requires.change c.pair_figures-size.result.0 (length c.args.run.now) c.pair_figures-size.ensures.size (order_once trip_rest c.args.run.now c.requires.order) in
+    let sized : c.changed_size-size.result ≡ set.len G = c.changed_size-size.ensures ∙ size_is c.args.change H B c.requires.run.change c.pair_figures-size.result.0 (length c.args.run.now) c.pair_figures-size.ensures.size (order_once trip_rest c.args.run.now c.requires.run.order) in
     let u = c.change_pair_position-2.new.context in
-    let kept = c.tables-tables.ensures.kept in
-    let made = both g.M.Mix.mixed t kept c.change_pair_position.new.context u c.args.change c.args.old c.requires.fits B c.in_ok-first.first c.in-Ok.second
+    let kept = c.is_kept.ensures in
+    let made = both g.M.Mix.mixed t kept c.change_pair_position.new.context u c.args.change c.args.old c.requires.run.fits B c.in_ok-first.first c.in-Ok.second
     c.in_ok-first.ensures.slices c.in_ok-first.ensures.held.moved c.in_ok-first.ensures.held.stay c.in-Ok.ensures.slices c.in-Ok.ensures.held.moved c.in-Ok.ensures.held.stay in
     let some : 1 ≤ set.len G = let not = c.if-size-eq0.false in omega arith in
-    let hashed = c.toggled_pairs-hash.ensures ∙ hash_is g.M.Mix.mixed 2 (grows c.args.change) H B c.requires.change c.pair_figures-size.result.1 c.pair_figures-size.ensures.hash in
-    let parts = pair_parts g.M.Mix.mixed t kept u G c.in_ok-first.first c.in-Ok.second made c.changed_size-size.result c.toggled_pairs-hash.result (changed_deep g.M.Mix.mixed t kept c.args.change c.args.old c.requires.fits c.args.run.now) sized hashed in
+    let hashed = c.toggled_pairs-hash.ensures ∙ hash_is g.M.Mix.mixed 2 (grows c.args.change) H B c.requires.run.change c.pair_figures-size.result.1 c.pair_figures-size.ensures.hash in
+    let parts = pair_parts g.M.Mix.mixed t kept u G c.in_ok-first.first c.in-Ok.second made c.changed_size-size.result c.toggled_pairs-hash.result (changed_deep g.M.Mix.mixed t kept c.args.change c.args.old c.requires.run.fits c.args.run.now) sized hashed in
     let is = c.pair_node-node.ensures (set_of u 1) G some parts in
     record {
       moved = edge_moved g.M.Mix.mixed t kept u G c.in_ok-first.first c.in-Ok.second made c.pair_node-node.result is c.intern.new.self c.in_ok-held.held c.in_ok-held.ensures.there c.in_ok-held.ensures.stay c.in_ok-held.ensures.moved c.into_edge.result c.into_edge.ensures;

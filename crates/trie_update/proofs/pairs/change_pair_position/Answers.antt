@@ -1,4 +1,4 @@
-use Rattle.std.proofs.Common.{ap, ◌∙◌}
+use Rattle.std.proofs.Common.{rules, ap, ◌∙◌}
 use Rattle.std.specs.Ordering.{nat_cmp}
 use Rattle.hypertrie_model.specs.Slices.{slice}
 use Rattle.hypertrie_model.specs.Changes.{after}
@@ -12,13 +12,17 @@ use Rattle.trie_update.proofs.PairLemmas.{if_ok, changes_of, slices_after}
 use Rattle.trie_update.proofs.pairs.change_pair_position.Goals as goal
 
 pub pairs_by_key-requires-clause-once : goal.pairs_by_key-requires-clause-once
-pairs_by_key-requires-clause-once g c = order_once trip_rest c.args.run.now c.requires.order
+pairs_by_key-requires-clause-once g c = order_once trip_rest c.args.run.now c.requires.run.order
 
-pub change_pair_map-requires-clause-change : goal.change_pair_map-requires-clause-change
-change_pair_map-requires-clause-change g c =
-    changes_of c.args.change c.args.context.now 1 (set_at c.args.context.now 2 c.args.old) (set_of_entries trip_rest c.args.run.now) c.args.position c.in_ok-edges.edges (set_of_entries pair_tuple c.deref.result.now)
-    c.requires.change c.in_ok-edges.ensures
-    (λ k. ap (λ ps. slice nat_cmp (set_of_entries pair_tuple ps) 0 k) c.deref.ensures.value ∙ c.in_ok-pairs.ensures.slices k)
+pub change_pair_map-requires-clause-entries : goal.change_pair_map-requires-clause-entries
+change_pair_map-requires-clause-entries g c =
+    record {
+      fits = search rules;
+      order = search rules;
+      change = changes_of c.args.change c.args.context.now 1 (set_at c.args.context.now 2 c.args.old) (set_of_entries trip_rest c.args.run.now) c.args.position c.in_ok-edges.edges (set_of_entries pair_tuple c.deref.result.now)
+          c.requires.run.change c.in_ok-edges.ensures
+          (λ k. ap (λ ps. slice nat_cmp (set_of_entries pair_tuple ps) 0 k) c.deref.ensures.value ∙ c.in_ok-pairs.ensures.slices k);
+    }
 
 pub returns-clause-slices : goal.returns-clause-slices
 returns-clause-slices g c =

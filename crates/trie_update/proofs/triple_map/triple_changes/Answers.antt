@@ -15,7 +15,7 @@ use Rattle.trie_update.proofs.MapLemmas.{IsCut, cut_at, first_there, begins, run
 use Rattle.trie_update.proofs.triple_map.triple_changes.Goals as goal
 
 pub loop-first-init : goal.loop-first-init
-loop-first-init g c = (begins (λ (p : Trip). p.0.0) trip_rest g.M.Mix.mixed c.args.change 2 c.args.context.now c.args.old.now c.args.triples.now c.tables.ensures.kept c.requires.fits c.args.changes.now.items c.requires.none, (λ d r. omega arith), omega arith)
+loop-first-init g c = (begins (λ (p : Trip). p.0.0) trip_rest g.M.Mix.mixed c.args.change 2 c.args.context.now c.args.old.now c.args.triples.now c.is_kept.ensures c.requires.entries.fits c.args.changes.now.items c.requires.none, (λ d r. omega arith), omega arith)
 
 abbrev key_of : Trip → ℕ
 key_of p = p.0.0
@@ -27,25 +27,21 @@ cut : (rest : List Trip) (n : ℕ) (run others : List Trip) (p : Trip) → rest 
     → ((q : Trip) → n < length rest → (slice_index_or rest n q).0.0 ≢ p.0.0) → Some p ≡ slice_get rest 0 → Cut rest p.0 run others
 cut rest n run others p whole front back le all ends is = let here = first_there rest p is in cut_at key_of trip_rest rest p.0.0 n run others whole front back le all ends p here.0 (ap key_of here.1)
 
-pub change_pairs-requires-clause-fits : goal.change_pairs-requires-clause-fits
-change_pairs-requires-clause-fits g c =
-    subst (FitsSome c.loop-first.context 2) (sym c.get.ensures)
-    (old_there key_of trip_rest g.M.Mix.mixed c.args.change 2 c.args.context.now c.args.old.now c.args.triples.now c.tables.ensures.kept c.requires.fits c.requires.order
-    c.loop-first.context c.loop-first.rest.now c.loop-first.changes.items c.loop-first.invariant.0 c.in-Some.first.now.0 c.split_at.result.0.now c.split_at.result.1.now
-    (cut c.loop-first.rest.now c.triple_run.result c.split_at.result.0.now c.split_at.result.1.now c.in-Some.first.now c.split_at.ensures.by_index.0 c.split_at.ensures.front c.split_at.ensures.back c.triple_run.ensures.bound c.triple_run.ensures.run c.triple_run.ensures.end c.in-Some.ensures.value))
-
-pub change_pairs-requires-clause-order : goal.change_pairs-requires-clause-order
-change_pairs-requires-clause-order g c =
-    run_order key_of trip_rest g.M.Mix.mixed c.args.change 2 c.args.context.now c.args.old.now c.args.triples.now c.tables.ensures.kept c.requires.fits c.requires.order
-    c.loop-first.context c.loop-first.rest.now c.loop-first.changes.items c.loop-first.invariant.0 c.in-Some.first.now.0 c.split_at.result.0.now c.split_at.result.1.now
-    (cut c.loop-first.rest.now c.triple_run.result c.split_at.result.0.now c.split_at.result.1.now c.in-Some.first.now c.split_at.ensures.by_index.0 c.split_at.ensures.front c.split_at.ensures.back c.triple_run.ensures.bound c.triple_run.ensures.run c.triple_run.ensures.end c.in-Some.ensures.value)
-
-pub change_pairs-requires-clause-change : goal.change_pairs-requires-clause-change
-change_pairs-requires-clause-change g c =
-    subst (λ o. IsChange (grows c.args.change) (set_at c.loop-first.context 2 o) (set_of_entries trip_rest c.split_at.result.0.now)) (sym c.get.ensures)
-    (run_change key_of trip_rest g.M.Mix.mixed c.args.change 2 c.args.context.now c.args.old.now c.args.triples.now c.tables.ensures.kept c.requires.fits c.requires.order
-    c.loop-first.context c.loop-first.rest.now c.loop-first.changes.items c.loop-first.invariant.0 c.in-Some.first.now.0 c.split_at.result.0.now c.split_at.result.1.now
-    (cut c.loop-first.rest.now c.triple_run.result c.split_at.result.0.now c.split_at.result.1.now c.in-Some.first.now c.split_at.ensures.by_index.0 c.split_at.ensures.front c.split_at.ensures.back c.triple_run.ensures.bound c.triple_run.ensures.run c.triple_run.ensures.end c.in-Some.ensures.value) c.requires.change)
+pub change_pairs-requires-clause-run : goal.change_pairs-requires-clause-run
+change_pairs-requires-clause-run g c =
+    record {
+      fits = subst (FitsSome c.loop-first.context 2) (sym c.get.ensures)
+          (old_there key_of trip_rest g.M.Mix.mixed c.args.change 2 c.args.context.now c.args.old.now c.args.triples.now c.is_kept.ensures c.requires.entries.fits c.requires.entries.order
+          c.loop-first.context c.loop-first.rest.now c.loop-first.changes.items c.loop-first.invariant.0 c.in-Some.first.now.0 c.split_at.result.0.now c.split_at.result.1.now
+          (cut c.loop-first.rest.now c.triple_run.result c.split_at.result.0.now c.split_at.result.1.now c.in-Some.first.now c.split_at.ensures.by_index.0 c.split_at.ensures.front c.split_at.ensures.back c.triple_run.ensures.bound c.triple_run.ensures.run c.triple_run.ensures.end c.in-Some.ensures.value));
+      order = run_order key_of trip_rest g.M.Mix.mixed c.args.change 2 c.args.context.now c.args.old.now c.args.triples.now c.is_kept.ensures c.requires.entries.fits c.requires.entries.order
+          c.loop-first.context c.loop-first.rest.now c.loop-first.changes.items c.loop-first.invariant.0 c.in-Some.first.now.0 c.split_at.result.0.now c.split_at.result.1.now
+          (cut c.loop-first.rest.now c.triple_run.result c.split_at.result.0.now c.split_at.result.1.now c.in-Some.first.now c.split_at.ensures.by_index.0 c.split_at.ensures.front c.split_at.ensures.back c.triple_run.ensures.bound c.triple_run.ensures.run c.triple_run.ensures.end c.in-Some.ensures.value);
+      change = subst (λ o. IsChange (grows c.args.change) (set_at c.loop-first.context 2 o) (set_of_entries trip_rest c.split_at.result.0.now)) (sym c.get.ensures)
+          (run_change key_of trip_rest g.M.Mix.mixed c.args.change 2 c.args.context.now c.args.old.now c.args.triples.now c.is_kept.ensures c.requires.entries.fits c.requires.entries.order
+          c.loop-first.context c.loop-first.rest.now c.loop-first.changes.items c.loop-first.invariant.0 c.in-Some.first.now.0 c.split_at.result.0.now c.split_at.result.1.now
+          (cut c.loop-first.rest.now c.triple_run.result c.split_at.result.0.now c.split_at.result.1.now c.in-Some.first.now c.split_at.ensures.by_index.0 c.split_at.ensures.front c.split_at.ensures.back c.triple_run.ensures.bound c.triple_run.ensures.run c.triple_run.ensures.end c.in-Some.ensures.value) c.requires.entries.change);
+    }
 
 pub change_pairs-requires-clause-room : goal.change_pairs-requires-clause-room
 change_pairs-requires-clause-room g c d r =
@@ -60,7 +56,7 @@ loop-first-preserved g c =
     let turn : Cut c.loop-first.rest.now c.in-Some.first.now.0 run c.split_at.result.1.now =
     cut c.loop-first.rest.now c.triple_run.result run c.split_at.result.1.now c.in-Some.first.now c.split_at.ensures.by_index.0 c.split_at.ensures.front c.split_at.ensures.back c.triple_run.ensures.bound c.triple_run.ensures.run c.triple_run.ensures.end c.in-Some.ensures.value in
     let more : length (so_far.done ++ run) ≡ length so_far.done + length run = length-append so_far.done run in (
-      step key_of trip_rest g.M.Mix.mixed c.args.change 2 c.args.context.now c.args.old.now c.args.triples.now c.tables.ensures.kept c.requires.fits c.requires.order
+      step key_of trip_rest g.M.Mix.mixed c.args.change 2 c.args.context.now c.args.old.now c.args.triples.now c.is_kept.ensures c.requires.entries.fits c.requires.entries.order
           c.loop-first.context c.loop-first.rest.now c.loop-first.changes.items so_far c.in-Some.first.now.0 run c.split_at.result.1.now turn
           c.change_pairs.new.context c.in_ok-edge.edge c.in_ok-edge.ensures.held.moved c.in_ok-edge.ensures.held.stay
           (subst (λ o. StandsAt c.change_pairs.new.context 2 (after (grows c.args.change) (set_at c.loop-first.context 2 o) (set_of_entries trip_rest run)) c.in_ok-edge.edge) c.get.ensures c.in_ok-edge.ensures.stands)
@@ -76,7 +72,7 @@ change_pairs-requires-clause-size g c =
     let turn : Cut c.loop-first.rest.now c.in-Some.first.now.0 run c.split_at.result.1.now =
     cut c.loop-first.rest.now c.triple_run.result run c.split_at.result.1.now c.in-Some.first.now c.split_at.ensures.by_index.0 c.split_at.ensures.front c.split_at.ensures.back c.triple_run.ensures.bound c.triple_run.ensures.run c.triple_run.ensures.end c.in-Some.ensures.value in
     subst (λ o. set.len (after (grows c.args.change) (set_at c.loop-first.context 2 o) (set_of_entries trip_rest run)) < 2 ^ 64) (sym c.get.ensures)
-    (run_small key_of trip_rest g.M.Mix.mixed c.args.change 2 c.args.context.now c.args.old.now c.args.triples.now c.tables.ensures.kept c.requires.fits c.requires.order
+    (run_small key_of trip_rest g.M.Mix.mixed c.args.change 2 c.args.context.now c.args.old.now c.args.triples.now c.is_kept.ensures c.requires.entries.fits c.requires.entries.order
     c.loop-first.context c.loop-first.rest.now c.loop-first.changes.items c.loop-first.invariant.0 c.in-Some.first.now.0 run c.split_at.result.1.now turn c.requires.size)
 
 pub returns-in_err-edge-clause-held : goal.returns-in_err-edge-clause-held

@@ -12,35 +12,29 @@ use Rattle.trie_update.specs.Rooms.{AreSlicesAt, row_set_at}
 use Rattle.trie_update.proofs.PositionLemmas.{row_set_stays, row_stays_there, all_given_back, still_held, left_held, both_moved, both_given}
 use Rattle.trie_update.proofs.triples.change_positions.Goals as goal
 
-pub change_triple_position-requires-2-clause-there :
-    goal.change_triple_position-requires-2-clause-there
-change_triple_position-requires-2-clause-there g c = row_stays_there c.args.context.now c.change_triple_position.new.context c.in_ok-first.ensures.held.stay c.args.old c.requires.there
-
-pub change_triple_position-requires-2-clause-change :
-    goal.change_triple_position-requires-2-clause-change
-change_triple_position-requires-2-clause-change g c = subst (λ S. IsChange (grows c.args.change) S (set_of_entries trip_tuple c.args.batch.now)) (sym (row_set_stays g.M.Mix.mixed c.args.context.now c.change_triple_position.new.context c.tables.ensures.kept c.in_ok-first.ensures.held.stay c.args.old c.requires.there)) c.requires.change
-
-pub change_triple_position-requires-2-clause-size :
-    goal.change_triple_position-requires-2-clause-size
-change_triple_position-requires-2-clause-size g c = subst (λ S. set.len (after (grows c.args.change) S (set_of_entries trip_tuple c.args.batch.now)) < 2 ^ 64) (sym (row_set_stays g.M.Mix.mixed c.args.context.now c.change_triple_position.new.context c.tables.ensures.kept c.in_ok-first.ensures.held.stay c.args.old c.requires.there)) c.requires.size
+pub change_triple_position-requires-2-clause-batch : goal.change_triple_position-requires-2-clause-batch
+change_triple_position-requires-2-clause-batch g c =
+    record {
+      there = row_stays_there c.args.context.now c.change_triple_position.new.context c.in_ok-first.ensures.held.stay c.args.old c.requires.batch.there;
+      once = c.requires.batch.once;
+      change = subst (λ S. IsChange (grows c.args.change) S (set_of_entries trip_tuple c.args.batch.now)) (sym (row_set_stays g.M.Mix.mixed c.args.context.now c.change_triple_position.new.context c.is_kept.ensures c.in_ok-first.ensures.held.stay c.args.old c.requires.batch.there)) c.requires.batch.change;
+      size = subst (λ S. set.len (after (grows c.args.change) S (set_of_entries trip_tuple c.args.batch.now)) < 2 ^ 64) (sym (row_set_stays g.M.Mix.mixed c.args.context.now c.change_triple_position.new.context c.is_kept.ensures c.in_ok-first.ensures.held.stay c.args.old c.requires.batch.there)) c.requires.batch.size;
+    }
 
 pub release_map-requires : goal.release_map-requires
 release_map-requires g c = record { held = still_held (edges_in c.in_ok-first.first) c.in_ok-first.ensures.held.moved c.in-Err.ensures.kept }
 
 pub returns-in-Err-clause-kept : goal.returns-in-Err-clause-kept
-returns-in-Err-clause-kept g c = all_given_back c.tables.ensures.kept c.in_ok-first.ensures.held.moved c.in_ok-first.ensures.held.stay c.in-Err.ensures.kept c.release_map.ensures.moved c.release_map.ensures.came (λ d r. refl)
+returns-in-Err-clause-kept g c = all_given_back c.is_kept.ensures c.in_ok-first.ensures.held.moved c.in_ok-first.ensures.held.stay c.in-Err.ensures.kept c.release_map.ensures.moved c.release_map.ensures.came (λ d r. refl)
 
-pub change_triple_position-requires-3-clause-there :
-    goal.change_triple_position-requires-3-clause-there
-change_triple_position-requires-3-clause-there g c = row_stays_there c.args.context.now c.change_triple_position-2.new.context (rows_stay_on c.args.context.now c.change_triple_position.new.context c.change_triple_position-2.new.context c.in_ok-first.ensures.held.stay c.in-Ok.ensures.held.stay) c.args.old c.requires.there
-
-pub change_triple_position-requires-3-clause-change :
-    goal.change_triple_position-requires-3-clause-change
-change_triple_position-requires-3-clause-change g c = subst (λ S. IsChange (grows c.args.change) S (set_of_entries trip_tuple c.args.batch.now)) (sym (row_set_stays g.M.Mix.mixed c.args.context.now c.change_triple_position-2.new.context c.tables.ensures.kept (rows_stay_on c.args.context.now c.change_triple_position.new.context c.change_triple_position-2.new.context c.in_ok-first.ensures.held.stay c.in-Ok.ensures.held.stay) c.args.old c.requires.there)) c.requires.change
-
-pub change_triple_position-requires-3-clause-size :
-    goal.change_triple_position-requires-3-clause-size
-change_triple_position-requires-3-clause-size g c = subst (λ S. set.len (after (grows c.args.change) S (set_of_entries trip_tuple c.args.batch.now)) < 2 ^ 64) (sym (row_set_stays g.M.Mix.mixed c.args.context.now c.change_triple_position-2.new.context c.tables.ensures.kept (rows_stay_on c.args.context.now c.change_triple_position.new.context c.change_triple_position-2.new.context c.in_ok-first.ensures.held.stay c.in-Ok.ensures.held.stay) c.args.old c.requires.there)) c.requires.size
+pub change_triple_position-requires-3-clause-batch : goal.change_triple_position-requires-3-clause-batch
+change_triple_position-requires-3-clause-batch g c =
+    record {
+      there = row_stays_there c.args.context.now c.change_triple_position-2.new.context (rows_stay_on c.args.context.now c.change_triple_position.new.context c.change_triple_position-2.new.context c.in_ok-first.ensures.held.stay c.in-Ok.ensures.held.stay) c.args.old c.requires.batch.there;
+      once = c.requires.batch.once;
+      change = subst (λ S. IsChange (grows c.args.change) S (set_of_entries trip_tuple c.args.batch.now)) (sym (row_set_stays g.M.Mix.mixed c.args.context.now c.change_triple_position-2.new.context c.is_kept.ensures (rows_stay_on c.args.context.now c.change_triple_position.new.context c.change_triple_position-2.new.context c.in_ok-first.ensures.held.stay c.in-Ok.ensures.held.stay) c.args.old c.requires.batch.there)) c.requires.batch.change;
+      size = subst (λ S. set.len (after (grows c.args.change) S (set_of_entries trip_tuple c.args.batch.now)) < 2 ^ 64) (sym (row_set_stays g.M.Mix.mixed c.args.context.now c.change_triple_position-2.new.context c.is_kept.ensures (rows_stay_on c.args.context.now c.change_triple_position.new.context c.change_triple_position-2.new.context c.in_ok-first.ensures.held.stay c.in-Ok.ensures.held.stay) c.args.old c.requires.batch.there)) c.requires.batch.size;
+    }
 
 pub release_map-requires-in-Err-change_triple_position :
     goal.release_map-requires-in-Err-change_triple_position
@@ -71,7 +65,7 @@ returns-in-Ok-change_triple_position-clause-first g c =
 pub returns-in-Ok-change_triple_position-clause-second :
     goal.returns-in-Ok-change_triple_position-clause-second
 returns-in-Ok-change_triple_position-clause-second g c =
-    let same = row_set_stays g.M.Mix.mixed c.args.context.now c.change_triple_position.new.context c.tables.ensures.kept c.in_ok-first.ensures.held.stay c.args.old c.requires.there in
+    let same = row_set_stays g.M.Mix.mixed c.args.context.now c.change_triple_position.new.context c.is_kept.ensures c.in_ok-first.ensures.held.stay c.args.old c.requires.batch.there in
     slices_stay g.M.Mix.mixed c.change_triple_position-2.new.context c.change_triple_position-3.new.context c.in-Ok.ensures.held.moved.kept c.in-Ok-change_triple_position.ensures.held.stay
     2 (after (grows c.args.change) (row_set_at c.args.context.now c.args.old) (set_of_entries trip_tuple c.args.batch.now)) 1 c.in-Ok.second
     (subst (λ S. AreSlicesAt c.change_triple_position-2.new.context 2 (after (grows c.args.change) S (set_of_entries trip_tuple c.args.batch.now)) 1 c.in-Ok.second) same c.in-Ok.ensures.slices)
@@ -80,7 +74,7 @@ pub returns-in-Ok-change_triple_position-clause-third :
     goal.returns-in-Ok-change_triple_position-clause-third
 returns-in-Ok-change_triple_position-clause-third g c =
     let stay = rows_stay_on c.args.context.now c.change_triple_position.new.context c.change_triple_position-2.new.context c.in_ok-first.ensures.held.stay c.in-Ok.ensures.held.stay in
-    let same = row_set_stays g.M.Mix.mixed c.args.context.now c.change_triple_position-2.new.context c.tables.ensures.kept stay c.args.old c.requires.there in
+    let same = row_set_stays g.M.Mix.mixed c.args.context.now c.change_triple_position-2.new.context c.is_kept.ensures stay c.args.old c.requires.batch.there in
     subst (λ S. AreSlicesAt c.change_triple_position-3.new.context 2 (after (grows c.args.change) S (set_of_entries trip_tuple c.args.batch.now)) 2 c.in-Ok-change_triple_position.third) same c.in-Ok-change_triple_position.ensures.slices
 
 pub returns-in-Err-change_triple_position-clause-kept :
@@ -88,7 +82,7 @@ pub returns-in-Err-change_triple_position-clause-kept :
 returns-in-Err-change_triple_position-clause-kept g c =
     let e : ℕ → ℕ → ℕ = at_depth 2 (edges_in c.in_ok-first.first) in
     let f : ℕ → ℕ → ℕ = at_depth 2 (edges_in c.in-Ok.second) in
-    all_given_back c.tables.ensures.kept (both_moved e f c.in_ok-first.ensures.held.moved c.in-Ok.ensures.held.moved)
+    all_given_back c.is_kept.ensures (both_moved e f c.in_ok-first.ensures.held.moved c.in-Ok.ensures.held.moved)
     (rows_stay_on c.args.context.now c.change_triple_position.new.context c.change_triple_position-2.new.context c.in_ok-first.ensures.held.stay c.in-Ok.ensures.held.stay)
     c.in-Err-change_triple_position.ensures.kept
     (both_given e f c.release_map-in-Err-change_triple_position.ensures.moved c.release_map-in-Err-change_triple_position-2.ensures.moved)

@@ -14,17 +14,17 @@ use Rattle.trie_update.proofs.triples.change_root.Goals as goal
 
 pub changed_size-size-requires : goal.changed_size-size-requires
 changed_size-size-requires g c =
-    has_size c.args.change (row_set_at c.args.context.now c.args.old) (set_of_entries trip_tuple c.args.batch.now) c.requires.change c.requires.size c.triple_figures-size.result.0 (length c.args.batch.now) c.triple_figures-size.ensures.size c.requires.once
+    has_size c.args.change (row_set_at c.args.context.now c.args.old) (set_of_entries trip_tuple c.args.batch.now) c.requires.batch.change c.requires.batch.size c.triple_figures-size.result.0 (length c.args.batch.now) c.triple_figures-size.ensures.size c.requires.batch.once
 
 pub returns-then-size-eq0-clause-set : goal.returns-then-size-eq0-clause-set
 returns-then-size-eq0-clause-set g c =
-    let parts = are_parts c.tables.ensures.kept c.args.change c.args.old c.args.batch.now c.requires.once c.requires.change c.change_positions.new.context c.triple_figures-size.result.0 c.triple_figures-size.result.1 c.changed_size-size.result c.toggled_triples-hash.result c.in_ok-first.first c.in_ok-first.second c.in_ok-first.third
+    let parts = are_parts c.is_kept.ensures c.args.change c.args.old c.args.batch.now c.requires.batch.once c.requires.batch.change c.change_positions.new.context c.triple_figures-size.result.0 c.triple_figures-size.result.1 c.changed_size-size.result c.toggled_triples-hash.result c.in_ok-first.first c.in_ok-first.second c.in_ok-first.third
     c.triple_figures-size.ensures.size c.triple_figures-size.ensures.hash c.changed_size-size.ensures c.toggled_triples-hash.ensures c.in_ok-first.ensures.first c.in_ok-first.ensures.second c.in_ok-first.ensures.third in
     none_is c.change_positions.new.context parts c.if-size-eq0.true
 
 pub returns-then-size-eq0-clause-held : goal.returns-then-size-eq0-clause-held
 returns-then-size-eq0-clause-held g c =
-    let parts = are_parts c.tables.ensures.kept c.args.change c.args.old c.args.batch.now c.requires.once c.requires.change c.change_positions.new.context c.triple_figures-size.result.0 c.triple_figures-size.result.1 c.changed_size-size.result c.toggled_triples-hash.result c.in_ok-first.first c.in_ok-first.second c.in_ok-first.third
+    let parts = are_parts c.is_kept.ensures c.args.change c.args.old c.args.batch.now c.requires.batch.once c.requires.batch.change c.change_positions.new.context c.triple_figures-size.result.0 c.triple_figures-size.result.1 c.changed_size-size.result c.toggled_triples-hash.result c.in_ok-first.first c.in_ok-first.second c.in_ok-first.third
     c.triple_figures-size.ensures.size c.triple_figures-size.ensures.hash c.changed_size-size.ensures c.toggled_triples-hash.ensures c.in_ok-first.ensures.first c.in_ok-first.ensures.second c.in_ok-first.ensures.third in
     record {
       moved = moved_as c.in_ok-first.ensures.held.moved nothing nothing (λ d r. omega (arith, no_edge c.change_positions.new.context parts c.if-size-eq0.true d r));
@@ -34,7 +34,7 @@ returns-then-size-eq0-clause-held g c =
 
 pub lone_triple-triple-requires-clause-lone : goal.lone_triple-triple-requires-clause-lone
 lone_triple-triple-requires-clause-lone g c =
-    let parts = are_parts c.tables.ensures.kept c.args.change c.args.old c.args.batch.now c.requires.once c.requires.change c.change_positions.new.context c.triple_figures-size.result.0 c.triple_figures-size.result.1 c.changed_size-size.result c.toggled_triples-hash.result c.in_ok-first.first c.in_ok-first.second c.in_ok-first.third
+    let parts = are_parts c.is_kept.ensures c.args.change c.args.old c.args.batch.now c.requires.batch.once c.requires.batch.change c.change_positions.new.context c.triple_figures-size.result.0 c.triple_figures-size.result.1 c.changed_size-size.result c.toggled_triples-hash.result c.in_ok-first.first c.in_ok-first.second c.in_ok-first.third
     c.triple_figures-size.ensures.size c.triple_figures-size.ensures.hash c.changed_size-size.ensures c.toggled_triples-hash.ensures c.in_ok-first.ensures.first c.in_ok-first.ensures.second c.in_ok-first.ensures.third in
     one_whole c.change_positions.new.context parts c.if-size-eq1.true
 
@@ -45,7 +45,7 @@ release_positions-requires g c =
 
 pub returns-then-size-eq1-clause-set : goal.returns-then-size-eq1-clause-set
 returns-then-size-eq1-clause-set g c =
-    let parts = are_parts c.tables.ensures.kept c.args.change c.args.old c.args.batch.now c.requires.once c.requires.change c.change_positions.new.context c.triple_figures-size.result.0 c.triple_figures-size.result.1 c.changed_size-size.result c.toggled_triples-hash.result c.in_ok-first.first c.in_ok-first.second c.in_ok-first.third
+    let parts = are_parts c.is_kept.ensures c.args.change c.args.old c.args.batch.now c.requires.batch.once c.requires.batch.change c.change_positions.new.context c.triple_figures-size.result.0 c.triple_figures-size.result.1 c.changed_size-size.result c.toggled_triples-hash.result c.in_ok-first.first c.in_ok-first.second c.in_ok-first.third
     c.triple_figures-size.ensures.size c.triple_figures-size.ensures.hash c.changed_size-size.ensures c.toggled_triples-hash.ensures c.in_ok-first.ensures.first c.in_ok-first.ensures.second c.in_ok-first.ensures.third in
     sym c.lone_triple-triple.ensures ∙ whole_is c.change_positions.new.context parts
 
@@ -53,12 +53,12 @@ pub returns-then-size-eq1-clause-held : goal.returns-then-size-eq1-clause-held
 returns-then-size-eq1-clause-held g c = record {
   moved = moved_on c.in_ok-first.ensures.held.moved c.release_positions.ensures.moved nothing nothing (λ d r. omega arith);
   counts = λ d r. omega (arith, c.in_ok-first.ensures.held.counts d r, c.release_positions.ensures.counts d r);
-  stay = stay_again c.tables.ensures.kept c.in_ok-first.ensures.held.moved c.in_ok-first.ensures.held.stay c.release_positions.ensures.moved c.release_positions.ensures.came (λ d r. refl);
+  stay = stay_again c.is_kept.ensures c.in_ok-first.ensures.held.moved c.in_ok-first.ensures.held.stay c.release_positions.ensures.moved c.release_positions.ensures.came (λ d r. refl);
 }
 
 pub intern-requires-clause-form : goal.intern-requires-clause-form
 intern-requires-clause-form g c =
-    let parts = are_parts c.tables.ensures.kept c.args.change c.args.old c.args.batch.now c.requires.once c.requires.change c.change_positions.new.context c.triple_figures-size.result.0 c.triple_figures-size.result.1 c.changed_size-size.result c.toggled_triples-hash.result c.in_ok-first.first c.in_ok-first.second c.in_ok-first.third
+    let parts = are_parts c.is_kept.ensures c.args.change c.args.old c.args.batch.now c.requires.batch.once c.requires.batch.change c.change_positions.new.context c.triple_figures-size.result.0 c.triple_figures-size.result.1 c.changed_size-size.result c.toggled_triples-hash.result c.in_ok-first.first c.in_ok-first.second c.in_ok-first.third
     c.triple_figures-size.ensures.size c.triple_figures-size.ensures.hash c.changed_size-size.ensures c.toggled_triples-hash.ensures c.in_ok-first.ensures.first c.in_ok-first.ensures.second c.in_ok-first.ensures.third in
     let zero = c.if-size-eq0.false in
     let one = c.if-size-eq1.false in
@@ -71,11 +71,11 @@ intern-requires-clause-held g c =
 
 pub returns-in_err-intern-clause-kept : goal.returns-in_err-intern-clause-kept
 returns-in_err-intern-clause-kept g c = err_holds c.from_residual-in_err-intern.result
-    (all_given_back c.tables.ensures.kept c.in_ok-first.ensures.held.moved c.in_ok-first.ensures.held.stay refl c.in_err-intern.ensures.given c.in_err-intern.ensures.came (λ d r. refl))
+    (all_given_back c.is_kept.ensures c.in_ok-first.ensures.held.moved c.in_ok-first.ensures.held.stay refl c.in_err-intern.ensures.given c.in_err-intern.ensures.came (λ d r. refl))
 
 pub returns-clause-set : goal.returns-clause-set
 returns-clause-set g c =
-    let parts = are_parts c.tables.ensures.kept c.args.change c.args.old c.args.batch.now c.requires.once c.requires.change c.change_positions.new.context c.triple_figures-size.result.0 c.triple_figures-size.result.1 c.changed_size-size.result c.toggled_triples-hash.result c.in_ok-first.first c.in_ok-first.second c.in_ok-first.third
+    let parts = are_parts c.is_kept.ensures c.args.change c.args.old c.args.batch.now c.requires.batch.once c.requires.batch.change c.change_positions.new.context c.triple_figures-size.result.0 c.triple_figures-size.result.1 c.changed_size-size.result c.toggled_triples-hash.result c.in_ok-first.first c.in_ok-first.second c.in_ok-first.third
     c.triple_figures-size.ensures.size c.triple_figures-size.ensures.hash c.changed_size-size.ensures c.toggled_triples-hash.ensures c.in_ok-first.ensures.first c.in_ok-first.ensures.second c.in_ok-first.ensures.third in
     root_is c.change_positions.new.context parts c.intern.new.self c.in_ok-first.ensures.held.moved.kept c.in_ok-intern.ensures.stay c.in_ok-intern.field-0 c.in_ok-intern.ensures.there
 

@@ -11,21 +11,19 @@ use Rattle.trie_update.specs.Changes.{grows}
 use Rattle.trie_update.proofs.RootLemmas.{len-after_le, new_to_empty, grown_one, all_once, shrunk_none, shrunk_all}
 use Rattle.trie_update.proofs.update.change_one.Goals as goal
 
-pub change_root-requires-clause-once : goal.change_root-requires-clause-once
-change_root-requires-clause-once g c =
-    let is : c.deref.result.now ≡ c.args.batch.now ++ c.args.triple ∷ [] = search rules in
-    let new = subst (λ h. IsChange (grows h) (single nat_cmp (trip_tuple c.args.triple)) (set_of_entries trip_tuple c.args.batch.now)) c.in-Grow.is c.requires.change in
-    all_once c.args.batch.now c.args.triple c.deref.result.now is c.requires.once new
-
-pub change_root-requires-clause-change : goal.change_root-requires-clause-change
-change_root-requires-clause-change g c = subst (λ h. IsChange (grows h) (empty nat_cmp) (set_of_entries trip_tuple c.deref.result.now)) (sym c.in-Grow.is) (new_to_empty (set_of_entries trip_tuple c.deref.result.now))
-
-pub change_root-requires-clause-size : goal.change_root-requires-clause-size
-change_root-requires-clause-size g c =
-    let is : c.deref.result.now ≡ c.args.batch.now ++ c.args.triple ∷ [] = search rules in
-    let new = subst (λ h. IsChange (grows h) (single nat_cmp (trip_tuple c.args.triple)) (set_of_entries trip_tuple c.args.batch.now)) c.in-Grow.is c.requires.change in
-    subst (λ h. set.len (after (grows h) (empty nat_cmp) (set_of_entries trip_tuple c.deref.result.now)) < 2 ^ 64) (sym c.in-Grow.is)
-    (omega (arith, len-after_le true (empty nat_cmp) (set_of_entries trip_tuple c.deref.result.now) (new_to_empty (set_of_entries trip_tuple c.deref.result.now)), set.len-empty (slice_cmp nat_cmp), all_once c.args.batch.now c.args.triple c.deref.result.now is c.requires.once new, c.deref.type_inv.0))
+pub change_root-requires-clause-batch : goal.change_root-requires-clause-batch
+change_root-requires-clause-batch g c =
+    record {
+      there = tt;
+      once = let is : c.deref.result.now ≡ c.args.batch.now ++ c.args.triple ∷ [] = search rules in
+          let new = subst (λ h. IsChange (grows h) (single nat_cmp (trip_tuple c.args.triple)) (set_of_entries trip_tuple c.args.batch.now)) c.in-Grow.is c.requires.change in
+          all_once c.args.batch.now c.args.triple c.deref.result.now is c.requires.once new;
+      change = subst (λ h. IsChange (grows h) (empty nat_cmp) (set_of_entries trip_tuple c.deref.result.now)) (sym c.in-Grow.is) (new_to_empty (set_of_entries trip_tuple c.deref.result.now));
+      size = let is : c.deref.result.now ≡ c.args.batch.now ++ c.args.triple ∷ [] = search rules in
+          let new = subst (λ h. IsChange (grows h) (single nat_cmp (trip_tuple c.args.triple)) (set_of_entries trip_tuple c.args.batch.now)) c.in-Grow.is c.requires.change in
+          subst (λ h. set.len (after (grows h) (empty nat_cmp) (set_of_entries trip_tuple c.deref.result.now)) < 2 ^ 64) (sym c.in-Grow.is)
+          (omega (arith, len-after_le true (empty nat_cmp) (set_of_entries trip_tuple c.deref.result.now) (new_to_empty (set_of_entries trip_tuple c.deref.result.now)), set.len-empty (slice_cmp nat_cmp), all_once c.args.batch.now c.args.triple c.deref.result.now is c.requires.once new, c.deref.type_inv.0));
+    }
 
 pub returns-in-Shrink-clause-set : goal.returns-in-Shrink-clause-set
 returns-in-Shrink-clause-set g c =

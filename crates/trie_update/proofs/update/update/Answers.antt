@@ -21,7 +21,7 @@ release-requires g c = record {
 many : (g : given.Over) (c : goal.After-release g) → IsPut c.args.context.now c.release.new.self c.args.root.now c.replace.new.dest (after (grows c.args.change) (root_set c.args.context.now c.args.root.now) (set_of_entries trip_tuple c.args.batch.now))
 many g c =
     let went = subst (λ r. AreMoved g.M.Mix.mixed c.change_graph.new.context c.release.new.self nothing (root_hold r)) c.in-Many.ensures.value c.release.ensures.moved in
-    is_put c.args.root.now c.in_ok-new.new c.requires.held c.in_ok-new.ensures.held.moved went c.tables.ensures.kept c.in_ok-new.ensures.held.stay c.release.ensures.came c.replace.new.dest _ c.replace.ensures.after c.in_ok-new.ensures.set
+    is_put c.args.root.now c.in_ok-new.new c.requires.held c.in_ok-new.ensures.held.moved went c.is_kept.ensures c.in_ok-new.ensures.held.stay c.release.ensures.came c.replace.new.dest _ c.replace.ensures.after c.in_ok-new.ensures.set
 
 pub returns-in-Many-clause-set : goal.returns-in-Many-clause-set
 returns-in-Many-clause-set g c = (many g c).set
@@ -37,7 +37,7 @@ returns-in-Empty g c =
     let mid = c.change_graph.new.context in
     let none = few_hold c.args.root.now (subst (λ r. (r ≡ Empty) ⊎ ((triple : Trip) × (r ≡ One triple))) c.replace.ensures.value c.in-Empty.is) in
     let went = moved_none g.M.Mix.mixed mid c.in_ok-new.ensures.held.moved.kept (root_hold c.args.root.now) none in
-    let put = is_put c.args.root.now c.in_ok-new.new c.requires.held c.in_ok-new.ensures.held.moved went c.tables.ensures.kept c.in_ok-new.ensures.held.stay (rows_as_before mid) c.replace.new.dest _ c.replace.ensures.after c.in_ok-new.ensures.set in
+    let put = is_put c.args.root.now c.in_ok-new.new c.requires.held c.in_ok-new.ensures.held.moved went c.is_kept.ensures c.in_ok-new.ensures.held.stay (rows_as_before mid) c.replace.new.dest _ c.replace.ensures.after c.in_ok-new.ensures.set in
     record {
       set = put.set;
       held = put.held;

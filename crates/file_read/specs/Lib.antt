@@ -1,0 +1,2 @@
+pub mod ReaderState
+pub mod ReaderCalls

@@ -1,0 +1,17 @@
+pub mod BlockRead
+pub mod ColumnsRead
+pub mod LabelsTouched
+pub mod LexedRead
+pub mod NamesNumbered
+pub mod NamesRead
+pub mod Numbers
+pub mod OutlineMoves
+pub mod PatternsLabelled
+pub mod PatternsRead
+pub mod PlacesFound
+pub mod PrefixesRead
+pub mod ReaderLabels
+pub mod ReaderSteps
+pub mod SignsFound
+pub mod TermsKnown
+pub mod Within

@@ -1,0 +1,4 @@
+pub mod LabelledBlock
+pub mod Outlines
+pub mod Reads
+pub mod Seen

@@ -1,0 +1,3 @@
+pub mod CharactersRead
+pub mod EscapesRead
+pub mod NameParts

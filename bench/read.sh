@@ -1,15 +1,15 @@
 #!/usr/bin/env bash
 # How fast lines are read: a DELETE block over the empty graph, which reads and keeps each triple and then finds
-# nothing to take away. Where rapper or serdi are installed, they read the same lines, and the ratio of their time to
-# the time here is printed: above 1, this program is faster. A number of lines may be given as a word.
+# nothing to take away. Where rapper or serdi are installed, they read the same lines, and the ratio of the time here to
+# their time is printed: below 1, this program is faster. A number of lines may be given as a word.
 set -euo pipefail
 source "$(dirname "${BASH_SOURCE[0]}")/common.sh"
 
 count=${1:-300000}
 
-# A reader's seconds, lines per second, and how its time compares to that here.
+# A reader's seconds, lines per second, and how the time here compares to its time.
 row() {
-    printf '%-22s %-8s %8.3f %12.0f %8.2f\n' "$1" "$2" "$3" "$(ratio "$count" "$3")" "$(ratio "$3" "$4")"
+    printf '%-22s %-8s %8.3f %12.0f %8.2f\n' "$1" "$2" "$3" "$(ratio "$count" "$3")" "$(ratio "$4" "$3")"
 }
 
 # Measures the readers on the lines that a function gives.

@@ -1,6 +1,10 @@
 use super::*;
+use query_plan::{Column, Columns, Patterns, Query};
+use rdf_term::{KindRef, TermRef};
+use std::alloc::Global;
 use std::test::Fail;
 use tn_io::{Lines, MemSink, Out, Text};
+use trie_depth::Memory;
 
 /// Each reply and each refusal, one after another.
 #[test]
@@ -58,6 +62,53 @@ fn lines_and_figures(rt: HostRuntime) -> Result<(), Fail> {
     assert!(rt; put_figures(numbers, &mut out).is_ok());
     assert!(rt; out.flush().is_ok());
     let want = "a line\ntriples 2\nterms 4\ntwo 3\none 1\n";
+    assert_eq!(rt; sink.bytes(), want.as_bytes());
+    Ok(())
+}
+
+/// A query that asks for columns of these names.
+fn query_of(alloc: Global, names: &[&str]) -> Result<Query, Memory> {
+    let mut columns = Columns::new(alloc);
+    for name in names {
+        columns.push(Column {
+            name: Text::of(alloc, name)?,
+            label: None,
+        })?;
+    }
+    Ok(Query {
+        columns,
+        labels: 0,
+        distinct: false,
+        patterns: Patterns::new(alloc),
+        limit: None,
+        offset: 0,
+    })
+}
+
+/// The headers of two columns, of none and of one, each with rows under it.
+#[test]
+fn headers_and_rows(rt: HostRuntime) -> Result<(), Fail> {
+    let alloc = rt.alloc();
+    let two = query_of(alloc, &["x", "p"])?;
+    let none = query_of(alloc, &[])?;
+    let one = query_of(alloc, &["empty"])?;
+    let iri = Some(TermRef::Iri("x:a"));
+    let tagged = Some(TermRef::Literal("a\tb", KindRef::Tagged("en")));
+    let mut sink = MemSink::new(alloc, 64, Vec::new(alloc));
+    let mut out = Out::new(&mut sink);
+    assert!(rt; header(&two, &mut out).is_ok());
+    for (x, p) in [(iri, tagged), (None, iri), (tagged, None)] {
+        assert!(rt; field(x, true, &mut out).is_ok());
+        assert!(rt; field(p, false, &mut out).is_ok());
+        assert!(rt; end_row(&mut out).is_ok());
+    }
+    assert!(rt; header(&none, &mut out).is_ok());
+    assert!(rt; end_row(&mut out).is_ok());
+    assert!(rt; header(&one, &mut out).is_ok());
+    assert!(rt; field(None, true, &mut out).is_ok());
+    assert!(rt; end_row(&mut out).is_ok());
+    assert!(rt; out.flush().is_ok());
+    let want = "?x\t?p\n<x:a>\t\"a\\tb\"@en\n\t<x:a>\n\"a\\tb\"@en\t\n\n\n?empty\n\n";
     assert_eq!(rt; sink.bytes(), want.as_bytes());
     Ok(())
 }

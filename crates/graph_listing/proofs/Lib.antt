@@ -2,3 +2,4 @@ pub mod PartLemmas
 pub mod NextLemmas
 pub mod ValueLemmas
 pub mod StartLemmas
+pub mod TrialLemmas

@@ -6,5 +6,7 @@
 
 mod listing;
 mod starts;
+#[cfg(test)]
+mod tests;
 
 pub use listing::{Listing, whole_listings};

@@ -1,5 +1,5 @@
 -- The triples that were read so far, and those that are to come.
-use Rattle.std.proofs.Common.{◌≡◌, ◌∙◌, ℕ, ◌+◌, ◌<◌, ◌≤◌, List, [], ◌∷◌, ◌++◌, length, get_or, refl, sym, ap, subst, append_assoc, arith, Option, Some, None, true, false}
+use Rattle.std.proofs.Common.{◌≡◌, ◌∙◌, ℕ, ◌+◌, ◌<◌, ◌≤◌, List, [], ◌∷◌, ◌++◌, length, get_or, refl, sym, ap, subst, append_assoc, Option, Some, None, true, false}
 use Rattle.std.specs.Prelude.{map}
 use Rattle.query_grammar.specs.Block as model
 use Rattle.query_grammar.specs.BlockFront as front

@@ -1,9 +1,9 @@
 -- The columns that were read so far, and those that are to come.
-use Rattle.std.proofs.Common.{◌≡◌, ◌∙◌, ℕ, ◌<◌, ◌≤◌, Bool, true, false, cond, List, [], ◌∷◌, ◌++◌, length, take, refl, sym, ap, append_assoc, arith, Option, Some, None}
+use Rattle.std.proofs.Common.{◌≡◌, ◌∙◌, ◌<◌, ◌≤◌, Bool, cond, List, [], ◌∷◌, ◌++◌, length, refl, sym, ap, append_assoc, arith, Option, Some, None}
 use Rattle.std.specs.Prelude.{map}
 use Rattle.query_grammar.specs.Lexemes.{Lexeme}
-use Rattle.query_grammar.specs.Meaning.{Name, Column, column_of, variables_from, names_of, names_from, selected, before_block, has_sign, place_of, VariableName, LabelName, Fresh}
-use Rattle.query_grammar.specs.Signs.{Star, OpenBrace}
+use Rattle.query_grammar.specs.Meaning.{Name, Column, column_of, variables_from, names_of, names_from, selected, before_block, place_of, VariableName, LabelName, Fresh}
+use Rattle.query_grammar.specs.Signs.{Star}
 use Rattle.std.specs.Option.{option_map}
 use Rattle.query_read.specs.Reads.{variables_of, ListsVariables}
 use Rattle.query_read.proofs.NamesRead.{variables_cons}

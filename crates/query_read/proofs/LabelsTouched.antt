@@ -1,8 +1,8 @@
 -- The tokens of a block that are labels, and the places of its triples, by the productions.
-use Rattle.std.proofs.Common.{◌≡◌, ◌∙◌, ℕ, ◌+◌, ◌*◌, ◌<◌, ◌≤◌, Bool, true, false, List, [], ◌∷◌, ◌++◌, length, refl, sym, ap, arith}
+use Rattle.std.proofs.Common.{◌≡◌, ℕ, ◌+◌, ◌*◌, ◌≤◌, List, [], ◌∷◌, ◌++◌, length, arith}
 use Rattle.std.specs.List.{AllByRecursion}
 use Rattle.std.proofs.lemmas.List.{length-append}
-use Rattle.query_grammar.specs.Block.{Role, Term, Name, Variable, TypeOf, Text, LangTag, Carets, Open, Close, Stop, Comma, Semicolon, Other, Part, part, Triple, triple, is_node, is_verb, IsSimple, node, text, tagged, typed, blank, IsProps, props, IsMore, end, semicolon, again, IsObjects, last, comma, IsObject, simple, bracket, IsSame, followed, IsBlock, nothing, one, more}
+use Rattle.query_grammar.specs.Block.{Role, Term, Variable, Open, Close, Stop, Comma, Part, part, Triple, triple, IsSimple, node, text, tagged, typed, blank, IsProps, props, IsMore, end, semicolon, again, IsObjects, last, comma, IsObject, simple, bracket, IsSame, followed, IsBlock, nothing, one, more}
 
 -- whether a token may be a label
 abbrev pub weight : Role → ℕ

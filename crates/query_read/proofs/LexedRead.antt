@@ -1,11 +1,11 @@
 -- The tokens that were read so far, and those that are to come.
 use Rattle.std.proofs.Common.{◌≡◌, ◌∙◌, ℕ, zero, suc, ◌+◌, ◌-◌, ◌<◌, ◌≤◌, Bool, true, false, ◌&&◌, cond, List, [], ◌∷◌, ◌++◌, length, take, drop, refl, sym, ap, subst, append_assoc, arith, Option, Some, None, chars, IsUtf8}
-use Rattle.std.specs.Prelude.{encode_utf8, encode_utf8_all, slice_range, ◌==◌}
+use Rattle.std.specs.Prelude.{encode_utf8_all, slice_range, ◌==◌}
 use Rattle.std.specs.Option.{option_map}
 use Rattle.std.specs.Str.{all_scalars}
 use Rattle.std.proofs.Math.Utf8.{scalar}
 use Rattle.std.proofs.lemmas.Bool.Decides.{nat_tests}
-use Rattle.std.proofs.lemmas.List.{length-append, length-drop, length-take, drop-drop}
+use Rattle.std.proofs.lemmas.List.{length-drop, length-take, drop-drop}
 use Rattle.std.proofs.lemmas.Str.{chars-encodes, encodes-chars, encodes-append, scalars-chars, length-le-encodes}
 use Rattle.std.proofs.Math.Seq.{drop-append_seam}
 use Rattle.query_tokens.specs.Forms.{Form}
@@ -13,7 +13,6 @@ use Rattle.query_tokens.specs.Front.{token_at, gap_at, longest, length_found, en
 use Rattle.query_tokens.specs.Tokens.{Kind, kinds}
 use Rattle.query_grammar.specs.Lexemes.{Lexeme, lexeme, lexed, lexed_up_to, behind_gap, one_before}
 use Rattle.query_lex.specs.Kinds.{kind_of}
-use Rattle.query_lex.specs.Reading as reading
 use Rattle.query_lex.specs.Reading.{Reading, IsNext, IsAtEnd, IsAtFault, ahead, size}
 use Rattle.query_lex.specs.declared.token.Token.{Token}
 

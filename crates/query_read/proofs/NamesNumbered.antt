@@ -1,16 +1,14 @@
 -- The names of the tokens: each has its own number, and comes from a token.
-use Rattle.std.proofs.Common.{◌≡◌, ◌∙◌, ℕ, zero, suc, ◌+◌, ◌-◌, ◌<◌, ◌≤◌, Bool, true, false, cond, ◌⊎◌, inl, inr, List, [], ◌∷◌, ◌++◌, length, take, drop, get_or, refl, sym, ap, subst, add-one, arith, eqb, Option, Some, None}
+use Rattle.std.proofs.Common.{◌≡◌, ◌∙◌, ℕ, zero, suc, ◌+◌, ◌<◌, ◌≤◌, Bool, true, false, cond, ◌⊎◌, inl, inr, List, [], ◌∷◌, ◌++◌, length, take, drop, get_or, refl, sym, ap, subst, arith, eqb, Option, Some, None}
 use Rattle.std.specs.Prelude.{IfSome, not, ◌||◌}
 use Rattle.std.specs.List.{AllByRecursion, list_any, position_or_len}
-use Rattle.std.specs.Str.{bytes_eq}
 use Rattle.std.proofs.lemmas.Bool.Decides.{nat_tests}
 use Rattle.std.proofs.lemmas.Bool.{cases_lt}
 use Rattle.std.proofs.lemmas.List.{length-append, drop_all}
 use Rattle.std.proofs.lemmas.List.Folds.{position_or_len_push}
 use Rattle.std.proofs.lemmas.Slice.Eq.{bytes_eq-Decides}
-use Rattle.query_grammar.specs.Block.{Role, Part}
 use Rattle.query_grammar.specs.Lexemes.{Lexeme}
-use Rattle.query_grammar.specs.Meaning.{Name, VariableName, LabelName, Fresh, same_name, number_among, with_name, with_some, names_from, name_by, name_of, parts_from, at, no_lexeme}
+use Rattle.query_grammar.specs.Meaning.{Name, VariableName, LabelName, Fresh, same_name, number_among, with_some, names_from, name_by, name_of, parts_from, at}
 use Rattle.query_grammar.specs.Signs.{Sign, Variable, Label, Open, sign_of, role_of}
 use Rattle.query_read.proofs.LabelsTouched.{weight, labels_in, AllParts, AllLabels}
 

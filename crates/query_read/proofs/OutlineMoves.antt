@@ -1,7 +1,6 @@
 -- Each move over the outline of a query is what its form asks for.
-use Rattle.std.proofs.Common.{◌≡◌, ◌∙◌, ℕ, List, [], ◌∷◌, refl, sym, ap}
-use Rattle.std.specs.Prelude.{map, Bool}
-use Rattle.query_tokens.specs.Forms.{Form}
+use Rattle.std.proofs.Common.{◌≡◌, ◌∙◌, List, [], ◌∷◌, refl, sym, ap}
+use Rattle.std.specs.Prelude.{map}
 use Rattle.query_tokens.specs.Front.{behind, is_optional}
 use Rattle.query_tokens.specs.Front as front
 use Rattle.query_grammar.specs.Lexemes.{Lexeme}

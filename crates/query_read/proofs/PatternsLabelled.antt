@@ -1,9 +1,9 @@
 -- Each label of a query stands in one of its patterns.
-use Rattle.std.proofs.Common.{◌≡◌, ◌∙◌, ℕ, ◌+◌, ◌*◌, ◌<◌, ◌≤◌, ◌-◌, Bool, true, false, cond, List, [], ◌∷◌, ◌++◌, length, refl, sym, ap, subst, arith, Option, Some, None}
+use Rattle.std.proofs.Common.{◌≡◌, ◌∙◌, ℕ, ◌+◌, ◌<◌, ◌≤◌, ◌-◌, Bool, true, false, cond, List, [], ◌∷◌, ◌++◌, length, refl, sym, ap, subst, arith, Option, Some, None}
 use Rattle.std.specs.Prelude.{IfSome, map, nat_eq, ◌||◌}
 use Rattle.std.specs.List.{AllByRecursion, list_any}
 use Rattle.std.proofs.lemmas.Bool.Decides.{nat_tests}
-use Rattle.query_grammar.specs.Block.{Triple, Part, IsBlock}
+use Rattle.query_grammar.specs.Block.{Triple, IsBlock}
 use Rattle.query_grammar.specs.Lexemes.{Lexeme}
 use Rattle.query_grammar.specs.Meaning as meaning
 use Rattle.query_grammar.specs.Meaning.{Name, Place, LabelAt, Const, Pattern, number_among, names_from, name_of, parts_from, at, place_at, label_or_term, term_at, pattern_by, pattern_at, pattern_before, patterns_of, column_of}
@@ -16,8 +16,8 @@ use Rattle.query_plan.specs.declared.patterns.Place as code_place
 use Rattle.query_plan.specs.declared.patterns.Place.TheVariants as variant
 use Rattle.query_read.specs.LabelledBlock.{place_labels, labels_of, Stands, AllStanding, IsLabelledBlock}
 use Rattle.query_read.specs.Reads.{block_within}
-use Rattle.query_read.proofs.LabelsTouched.{AllTriples, AllParts, AllLabels, all_join, all_left, all_right, labels_in, block_labels, block_touched, block_placed}
-use Rattle.query_read.proofs.NamesNumbered.{AreNumbered, name_at, numbered, AllNamed, all_named, all_at, Has, each_has, size_all, Aligned, aligned, named_at, at_named, any_before_end}
+use Rattle.query_read.proofs.LabelsTouched.{AllTriples, all_join, all_left, all_right, block_labels, block_touched, block_placed}
+use Rattle.query_read.proofs.NamesNumbered.{numbered, AllNamed, all_named, all_at, Has, each_has, size_all, aligned, named_at, at_named, any_before_end}
 
 -- what holds of the numbers of names, at a place of the tokens
 abbrev Numbered : (ℕ → Type 0) → List Lexeme → List Name → ℕ → Type 0

@@ -1,10 +1,10 @@
 -- The first place that passes a test, and tokens by their places.
-use Rattle.std.proofs.Common.{◌≡◌, ◌∙◌, ℕ, ◌+◌, ◌<◌, ◌≤◌, Bool, true, false, cond, List, [], ◌∷◌, length, drop, get_or, refl, sym, ap, arith}
+use Rattle.std.proofs.Common.{◌≡◌, ◌∙◌, ℕ, ◌+◌, ◌<◌, ◌≤◌, Bool, true, false, cond, List, [], ◌∷◌, length, get_or, sym, ap, arith}
 use Rattle.std.specs.Prelude.{not}
 use Rattle.std.specs.List.{position_or_len}
 use Rattle.std.proofs.lemmas.List.{get_or_default, get_or_past}
 use Rattle.query_grammar.specs.Lexemes.{Lexeme}
-use Rattle.query_grammar.specs.Meaning.{at, no_lexeme, term_at, term_by, name_of, place_at, Name, Place}
+use Rattle.query_grammar.specs.Meaning.{at, no_lexeme, term_at, term_by}
 use Rattle.query_grammar.specs.Signs.{sign_of, OtherWord}
 use Rattle.std.proofs.Common.{None}
 

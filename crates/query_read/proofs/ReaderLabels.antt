@@ -1,5 +1,5 @@
 -- The names, the labels and the parts of the whole query.
-use Rattle.std.proofs.Common.{◌≡◌, ◌∙◌, ℕ, ◌+◌, ◌-◌, ◌<◌, ◌≤◌, Bool, true, false, List, [], ◌∷◌, length, take, drop, refl, sym, ap, subst, arith, Option, Some, None, chars, IsUtf8, Result, Ok, Err}
+use Rattle.std.proofs.Common.{◌≡◌, ◌∙◌, ℕ, ◌+◌, ◌-◌, ◌≤◌, Bool, true, false, List, [], ◌∷◌, length, take, drop, refl, sym, ap, subst, arith, Option, Some, chars, IsUtf8}
 use Rattle.std.specs.Prelude.{map, cond}
 use Rattle.std.specs.Str.{is_utf8}
 use Rattle.std.proofs.lemmas.Str.{is_utf8-from_IsUtf8, IsUtf8-from_is_utf8}
@@ -11,8 +11,6 @@ use Rattle.query_grammar.specs.Meaning.{NotQuery, Pattern, block_of, column_of, 
 use Rattle.query_grammar.specs.Signs.{OpenBrace, CloseBrace, Distinct, Limit, Offset}
 use Rattle.query_grammar.proofs.Sound.{block_meant}
 use Rattle.query_plan.specs.Seen.{pattern_seen, column_seen, query_seen}
-use Rattle.query_plan.specs.declared.columns.Column.{Column}
-use Rattle.query_plan.specs.declared.patterns.Pattern as code
 use Rattle.query_plan.specs.declared.query.Query.{Query}
 use Rattle.query_read.specs.LabelledBlock.{IsLabelledBlock}
 use Rattle.query_read.specs.Reads.{block_within}

@@ -1,19 +1,19 @@
 -- Whether a term stands at a place.
-use Rattle.std.proofs.Common.{◌≡◌, ◌∙◌, ℕ, ◌+◌, ◌<◌, ◌≤◌, Bool, true, false, ◌&&◌, ◌⊎◌, inl, inr, List, [], ◌∷◌, ◌++◌, length, get_or, refl, sym, ap, subst, arith, zero, suc, Option, Some, None}
-use Rattle.std.specs.Prelude.{is_some, not, slice_index_or}
+use Rattle.std.proofs.Common.{◌≡◌, ◌∙◌, ℕ, ◌+◌, ◌<◌, ◌≤◌, Bool, true, false, ◌&&◌, ◌⊎◌, inl, inr, List, [], ◌∷◌, ◌++◌, length, refl, sym, ap, arith, zero, suc, Option, Some, None}
+use Rattle.std.specs.Prelude.{is_some, slice_index_or}
 use Rattle.std.specs.List.{list_all}
 use Rattle.std.specs.Option.{option_map}
 use Rattle.std.proofs.lemmas.Bool.{cases_lt}
 use Rattle.std.proofs.lemmas.List.{get_or_past, length-append}
 use Rattle.rdf_model.specs.Terms as rdf
 use Rattle.query_grammar.specs.Lexemes.{Lexeme}
-use Rattle.query_grammar.specs.Meaning.{Name, Place, LabelAt, Const, at, no_lexeme, is_sign, kind_by, label_or_term, literal, name_of, number_among, place_at, term_at, term_by}
+use Rattle.query_grammar.specs.Meaning.{Name, LabelAt, Const, at, no_lexeme, is_sign, kind_by, label_or_term, literal, name_of, number_among, place_at, term_at, term_by}
 use Rattle.query_grammar.specs.Signs.{Sign, Carets, Iri, Text, LangTag, sign_of}
-use Rattle.query_grammar.specs.Texts.{is_sound, is_sound_by, iri_text, name_iri, name_iri_by, string_text}
+use Rattle.query_grammar.specs.Texts.{is_sound, is_sound_by, name_iri, name_iri_by, string_text}
 use Rattle.query_read.specs.Reads.{Knows}
 use Rattle.query_read.specs.Seen.{name_seen, name_seen_in}
 use Rattle.query_read.specs.declared.name.Name.{Name as CodeName}
-use Rattle.query_read.proofs.PlacesFound.{at_past, term_past, sign_past}
+use Rattle.query_read.proofs.PlacesFound.{at_past, term_past}
 
 is_some_map : {A B : Type 0} (f : A → B) (o : Option A) → is_some (option_map f o) ≡ is_some o
 is_some_map f None = refl

@@ -1,6 +1,5 @@
 -- A list from one place up to another.
 use Rattle.std.proofs.Common.{◌≡◌, ◌∙◌, ℕ, zero, suc, ◌+◌, ◌-◌, ◌<◌, ◌≤◌, List, [], ◌∷◌, length, take, drop, get_or, refl, sym, ap, add-one, arith}
-use Rattle.std.proofs.lemmas.List.{length-drop}
 
 pub drop_there : {A : Type 0} (xs : List A) (x : A) (i : ℕ) → i < length xs → x ≡ get_or xs i x → drop i xs ≡ x ∷ drop (i + 1) xs
 drop_there [] x i h e = absurd (omega arith)

@@ -3,7 +3,7 @@ use Rattle.std.specs.Prelude.{Bool, true, false, List, [], ◌∷◌}
 use Rattle.query_tokens.specs.Forms.{Form}
 use Rattle.query_grammar.specs.Outline as outline
 use Rattle.query_grammar.specs.Signs.{Sign, Prefix, Select, Distinct, Reduced, Where, Limit, Offset, Iri, PnameNs, Variable, Integer, OpenBrace, CloseBrace, Star, number_of}
-use Rattle.std.specs.Prelude.{map, ℕ}
+use Rattle.std.specs.Prelude.{map}
 use Rattle.query_read.specs.declared.outline.Outline.{Outline}
 use Rattle.query_read.specs.declared.outline.Outline.TheVariants as at
 

@@ -1,5 +1,5 @@
 -- What the parts of the reader answer.
-use Rattle.std.specs.Prelude.{◌≡◌, ℕ, ◌+◌, ◌-◌, ◌<◌, ◌≤◌, Bool, true, false, ◌||◌, ◌&&◌, List, [], ◌∷◌, map, length, take, drop, slice_index_or, ◌++◌, Option, Some, None, Result, Ok, Err, cond, MatchResult}
+use Rattle.std.specs.Prelude.{◌≡◌, ℕ, ◌-◌, ◌<◌, ◌≤◌, Bool, true, false, ◌||◌, ◌&&◌, List, [], ◌∷◌, map, length, take, drop, slice_index_or, ◌++◌, Option, Some, None, Result, Ok, Err, cond}
 use Rattle.std.specs.Option.{is_some, option_map}
 use Rattle.std.specs.BTreeMap.{get_by_text}
 use Rattle.query_grammar.specs.Block as model
@@ -11,8 +11,6 @@ use Rattle.query_grammar.specs.Meaning as meaning
 use Rattle.query_plan.specs.declared.query.Query.{Query}
 use Rattle.query_plan.specs.declared.columns.Column.{Column}
 use Rattle.query_plan.specs.Seen.{query_seen, column_seen}
-use Rattle.query_read.specs.Seen.{triple_seen}
-use Rattle.query_read.specs.declared.block.Triple.{Triple}
 use Rattle.query_read.specs.declared.prefixes.Prefixes.{Prefixes}
 use Rattle.query_read.specs.declared.fault.ReadFault.{ReadFault}
 use Rattle.query_read.specs.declared.fault.ReadFault.TheVariants as fault

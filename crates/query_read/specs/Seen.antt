@@ -1,5 +1,5 @@
 -- What the reader keeps, as the definitions have it.
-use Rattle.std.specs.Prelude.{ℕ, Bool, true, false, List, [], ◌∷◌, map, Option, Some, None}
+use Rattle.std.specs.Prelude.{Bool, true, false, List, [], ◌∷◌, Option, Some, None}
 use Rattle.query_grammar.specs.Block as model
 use Rattle.query_grammar.specs.BlockFront as front
 use Rattle.query_grammar.specs.Meaning as meaning

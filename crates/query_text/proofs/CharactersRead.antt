@@ -1,5 +1,5 @@
 -- The characters of a text, from both its ends.
-use Rattle.std.proofs.Common.{◌≡◌, ◌∙◌, ℕ, ◌+◌, ◌-◌, ◌<◌, ◌≤◌, List, [], ◌∷◌, ◌++◌, length, take, drop, refl, sym, ap, subst, append_assoc, arith, Option, Some, None, chars, IsUtf8}
+use Rattle.std.proofs.Common.{◌≡◌, ◌∙◌, ℕ, ◌-◌, ◌<◌, List, [], ◌∷◌, ◌++◌, length, take, drop, refl, sym, ap, subst, arith, Option, Some, None, chars, IsUtf8}
 use Rattle.std.specs.Prelude.{encode_utf8, encode_utf8_all, MatchOption}
 use Rattle.std.proofs.lemmas.Str.{chars_past_char, chars-nil, encodes-chars, encodes-append, encodes_same, IsUtf8-past_char, length-encode, len_utf8_bounds}
 use Rattle.std.proofs.lemmas.List.{length-append}

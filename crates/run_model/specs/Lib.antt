@@ -1,5 +1,4 @@
 pub mod Answers
-pub mod Questions
 pub mod Sayings
 pub mod Worlds
 pub mod Steps

@@ -1,6 +1,6 @@
 -- Rows of small queries over small graphs: repeats, DISTINCT, blank nodes, labels that stand twice, no pattern, unknown terms,
 -- and the texts of rows.
-use Rattle.std.specs.Prelude.{◌≡◌, ℕ, zero, suc, ◌<◌, ◌&&◌, ◌||◌, Bool, true, false, not, nat_eq, List, [], ◌∷◌, ◌++◌, map, codes, refl, Option, None, Some, IfSome}
+use Rattle.std.specs.Prelude.{◌≡◌, ℕ, zero, suc, ◌<◌, ◌&&◌, ◌||◌, Bool, true, false, not, nat_eq, List, [], ◌∷◌, map, codes, refl, Option, None, Some, IfSome}
 use Rattle.std.proofs.Common.{sym, ◌∙◌, ap, subst, arith}
 use Rattle.std.proofs.lemmas.Cmp.{lists_total}
 use Rattle.std.proofs.lemmas.List.Elements.{filter_agree}
@@ -11,9 +11,9 @@ use Rattle.std.specs.List.Sorted.{IsPermutation}
 use Rattle.std.specs.Ordering.{eq_by_cmp}
 use Rattle.hypertrie_model.specs.Sets.{has}
 use Rattle.hypertrie_model.specs.SetLaws.{and_both, or_cases, tied-is}
-use Rattle.rdf_model.specs.Terms.{Text, Term, Iri, Blank, Literal, Typed, Tagged, Triple}
+use Rattle.rdf_model.specs.Terms.{Term, Iri, Literal, Typed, Tagged, Triple}
 use Rattle.rdf_model.specs.Texts.{xsd_string}
-use Rattle.rdf_model.specs.Graph.{Graph, term_cmp, triple_cmp, terms_total, exact_terms, triples_total, exact_triples}
+use Rattle.rdf_model.specs.Graph.{term_cmp, triple_cmp, terms_total, exact_terms, triples_total, exact_triples}
 use Rattle.set_image.specs.ImageLaws.{in_image}
 use Rattle.tuple_image.specs.TupleImages.{IsOver}
 use Rattle.graph_shape.specs.GraphShapes.{tuple_of, tuples_of}
@@ -23,7 +23,7 @@ use Rattle.bag_model.specs.AnswerLaws.{chosen-alike}
 use Rattle.bag_model.specs.Solutions.{assignments, row_of, IsUniverse}
 use Rattle.solution_model.specs.Answers.{chosen_rows}
 use Rattle.solution_model.specs.Labels.{IsLabelled}
-use Rattle.solution_model.specs.Rests.{pattern_labels, AreBelow, rest_of}
+use Rattle.solution_model.specs.Rests.{pattern_labels, rest_of}
 use Rattle.solution_model.specs.RestLaws.{rows_of_rests}
 use Rattle.solution_model.specs.Rows.{Row, term_under, has_triple, is_solution, column_labels, all_rows}
 use Rattle.solution_model.specs.Texts.{row_text, header_text}

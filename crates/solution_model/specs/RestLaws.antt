@@ -17,7 +17,7 @@ use Rattle.graph_shape.specs.GraphShapes.{tuple_of, tuples_of}
 use Rattle.query_grammar.specs.Meaning.{Query, Pattern, Place, LabelAt, Const}
 use Rattle.bag_model.specs.Solutions as bag
 use Rattle.bag_model.specs.Solutions.{image, assignments, row_of}
-use Rattle.solution_model.specs.Rows.{term_under, has_triple, has_image, is_solution, ordered_terms, column_labels, all_rows}
+use Rattle.solution_model.specs.Rows.{term_under, has_triple, has_image, is_solution, column_labels}
 use Rattle.solution_model.specs.Rests.{place_labels, pattern_labels, slice_by, rest_of, AreBelow}
 
 -- the triple is there exactly where its tuple is

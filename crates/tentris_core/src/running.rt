@@ -251,8 +251,9 @@ pub fn run<M: Mix, S: Source, K: Sink>(
         sorted: false,
         most_bytes: MAX_BYTES,
     };
-    let status =
-        run_script::<M, S, K, Brand, Brand>(alloc, settings, store, source, sink, interns, retains);
+    let status = run_script::<M, S, K, Brand, Brand>(
+        alloc, settings, store, source, sink, interns, retains,
+    );
     store.triples();
     status
 }

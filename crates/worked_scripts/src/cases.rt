@@ -77,9 +77,9 @@ fn scripts_have_their_answers(rt: HostRuntime) -> Result<(), Fail> {
             1,
         ),
         (
-            "one term in two spellings",
-            "INSERT\n<x:a> <x:p> \"a\" .\n<x:a> <x:p> \"a\"^^<http://www.w3.org/2001/XMLSchema#string> .\n<x:a> <x:p> \"t\\t\\n\"@EN .\n<x:a> <x:p> \"t\\u0009\\n\"@en .\nGO\n",
-            "ok new 2 now 2\n",
+            "one term in two spellings, and a tag in lower case",
+            "INSERT\n<x:a> <x:p> \"a\" .\n<x:a> <x:p> \"a\"^^<http://www.w3.org/2001/XMLSchema#string> .\n<x:a> <x:p> \"t\\t\\n\"@EN .\nGO\nDUMP\n",
+            "ok new 2 now 2\n<x:a> <x:p> \"a\" .\n<x:a> <x:p> \"t\t\\n\"@en .\nok dump 2\n",
             Status::Done,
             2,
         ),
@@ -131,6 +131,31 @@ fn scripts_have_their_answers(rt: HostRuntime) -> Result<(), Fail> {
             assert_eq!(rt; got.triples, triples, "{name}, in pieces of {piece}");
         }
     }
+    Ok(())
+}
+
+// The lines between the first and the last line of an answer: those of a dump.
+fn lines_within(answer: &[u8]) -> &[u8] {
+    let Some(first) = answer.iter().position(|b| *b == b'\n') else {
+        return &answer[..0];
+    };
+    answer
+        .get(first + 1..answer.len().saturating_sub(b"ok dump 3\n".len()))
+        .unwrap_or(&answer[..0])
+}
+
+#[test]
+fn a_dump_is_an_insert(rt: HostRuntime) -> Result<(), Fail> {
+    let alloc = rt.alloc();
+    let script =
+        b"INSERT\n_:b <x:p> \"q\\\"\\\\ \\r\\n\" .\n<x:a> <x:p> \"t\\t\"@en-GB .\n<x:a> <x:p> \"1\"^^<x:i> .\nGO\nDUMP\n";
+    let first = run_in_pieces(alloc, script.as_slice(), 64, 0, 0)?;
+    let mut again = b"INSERT\n".to_vec(alloc)?;
+    again.extend_from_slice(lines_within(first.written.as_slice()))?;
+    again.extend_from_slice(b"GO\nDUMP\n")?;
+    let second = run_in_pieces(alloc, again.as_slice(), 64, 0, 0)?;
+    assert_eq!(rt; first.triples, 3);
+    assert_eq!(rt; second.written.as_slice(), first.written.as_slice());
     Ok(())
 }
 

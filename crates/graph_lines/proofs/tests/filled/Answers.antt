@@ -32,5 +32,5 @@ pub shape_lines-requires : goal.shape_lines-requires
 shape_lines-requires g c =
     let H = root_set c.grow.new.context c.grow.new.root in
     let set_is = c.in_ok-grow.ensures.set ∙ union_none c.args.context.now c.requires.tables c.args.root.now c.requires.root (set_of_entries trip_tuple c.args.triples.now) in
-    let shape = changed_shape g.M.Mix.mixed c.args.context.now c.grow.new.context c.args.root.now c.grow.new.root c.in_ok-grow.ensures.moved (nothing_held c.args.context.now c.requires.tables c.args.root.now c.requires.root) in
+    let shape = changed_shape _ c.args.context.now c.grow.new.context c.args.root.now c.grow.new.root c.in_ok-grow.ensures.moved (nothing_held c.args.context.now c.requires.tables c.args.root.now c.requires.root) in
     record { shape = (H, subst (λ t. HasShape t H) (sym c.of-2.ensures.tables) shape, subst (λ terms. AreKnown terms H) (sym c.of-2.ensures.terms) (subst (AreKnown c.args.dict.now) (sym set_is) c.requires.known)) }

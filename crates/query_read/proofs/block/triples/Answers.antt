@@ -1,4 +1,4 @@
-use Rattle.std.proofs.Common.{arith, sym, ◌∙◌}
+use Rattle.std.proofs.Common.{arith}
 use Rattle.query_read.proofs.BlockRead.{block_begins, block_fails, block_goes_on, step_none, step_some}
 use Rattle.query_read.proofs.block.triples.Goals as goal
 

@@ -1,7 +1,6 @@
-use Rattle.std.proofs.Common.{◌∙◌, ◌≡◌, List, ap, arith, take, length, subst}
+use Rattle.std.proofs.Common.{◌∙◌, List, ap, arith, take}
 use Rattle.std.specs.Prelude.{map}
-use Rattle.query_grammar.specs.Lexemes.{Lexeme}
-use Rattle.query_grammar.specs.Meaning.{column_of, variables_from, before_block}
+use Rattle.query_grammar.specs.Meaning.{column_of, variables_from}
 use Rattle.query_read.specs.Seen.{name_seen}
 use Rattle.query_read.specs.declared.name.Name.{Name}
 use Rattle.query_read.proofs.NamesRead.{size_seen}

@@ -1,8 +1,8 @@
-use Rattle.std.proofs.Common.{ap, arith, drop, subst}
+use Rattle.std.proofs.Common.{ap, arith, drop}
 use Rattle.std.specs.Prelude.{map}
 use Rattle.std.proofs.lemmas.List.{drop_all}
 use Rattle.query_read.specs.Seen.{name_seen}
-use Rattle.query_read.proofs.ColumnsRead.{AreColumnsSoFar, columns_begin, columns_go_on, columns_end}
+use Rattle.query_read.proofs.ColumnsRead.{columns_go_on, columns_end}
 use Rattle.query_read.proofs.Within.{drop_get}
 use Rattle.query_read.proofs.column.columns_of.Goals as goal
 

@@ -1,4 +1,4 @@
-use Rattle.std.proofs.Common.{arith, length}
+use Rattle.std.proofs.Common.{arith}
 use Rattle.query_read.specs.Seen.{name_seen}
 use Rattle.query_read.proofs.NamesRead.{label_some, label_none}
 use Rattle.query_read.proofs.column.label_of.Goals as goal

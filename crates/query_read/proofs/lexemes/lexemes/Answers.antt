@@ -1,5 +1,4 @@
 use Rattle.std.proofs.Common.{◌∙◌, List, ℕ, ap}
-use Rattle.query_grammar.specs.Lexemes.{Lexeme}
 use Rattle.query_lex.specs.Kinds.{kind_of}
 use Rattle.query_read.proofs.LexedRead.{lexed_goes_on, goes_further, lexed_ends, lexed_fails}
 use Rattle.query_read.proofs.lexemes.lexemes.Goals as goal

@@ -1,4 +1,4 @@
-use Rattle.std.proofs.Common.{◌≡◌, ◌∙◌, ◌<◌, length, refl, arith, sym}
+use Rattle.std.proofs.Common.{◌∙◌, refl, arith}
 use Rattle.query_text.specs.Seen.{sign_seen}
 use Rattle.query_read.proofs.SignsFound.{number_none, number_some, number_large}
 use Rattle.query_read.proofs.limit.number_behind.Goals as goal

@@ -1,7 +1,7 @@
 use Rattle.std.proofs.Common.{ℕ, ◌≡◌, ◌≤◌, ◌^◌, Option, subst, sym, arith}
 use Rattle.std.specs.Prelude.{MatchOption}
 use Rattle.query_grammar.specs.Meaning.{value_of}
-use Rattle.query_read.proofs.Numbers.{too_large, value_more}
+use Rattle.query_read.proofs.Numbers.{too_large}
 use Rattle.query_read.proofs.limit.value_of.Goals as goal
 
 pub returns-in_err-number : goal.returns-in_err-number

@@ -1,4 +1,4 @@
-use Rattle.std.proofs.Common.{ℕ, List, ◌≤◌, ◌<◌, length, ◌∙◌, ap, arith}
+use Rattle.std.proofs.Common.{List, ◌∙◌, ap, arith}
 use Rattle.std.specs.Prelude.{map}
 use Rattle.query_grammar.specs.Meaning.{number_among}
 use Rattle.query_read.specs.Seen.{name_seen}

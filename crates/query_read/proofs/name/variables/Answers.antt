@@ -1,8 +1,7 @@
 use Rattle.std.proofs.Common.{◌∙◌, ap, arith, sym, drop}
 use Rattle.std.specs.Prelude.{map}
-use Rattle.std.proofs.lemmas.List.{drop_all}
 use Rattle.query_read.specs.Seen.{name_seen}
-use Rattle.query_read.proofs.NamesRead.{heads, variables_begin, variables_more, too_many, all_variables}
+use Rattle.query_read.proofs.NamesRead.{heads, variables_begin, variables_more, too_many}
 use Rattle.query_read.proofs.Within.{drop_there}
 use Rattle.query_read.proofs.name.variables.Goals as goal
 

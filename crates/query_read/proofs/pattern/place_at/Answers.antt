@@ -1,10 +1,7 @@
-use Rattle.std.proofs.Common.{arith, ap, sym, ◌∙◌}
+use Rattle.std.proofs.Common.{arith}
 use Rattle.std.specs.Prelude.{map}
-use Rattle.std.specs.Option.{option_map}
-use Rattle.rdf_term.specs.Seen.{term_of}
 use Rattle.query_read.specs.Seen.{name_seen}
-use Rattle.query_read.proofs.PlacesFound.{at_there}
-use Rattle.query_read.proofs.TermsKnown.{place_past, place_label, place_const}
+use Rattle.query_read.proofs.TermsKnown.{place_past}
 use Rattle.query_read.proofs.pattern.place_at.Goals as goal
 
 pub returns-then-i-all : goal.returns-then-i-all

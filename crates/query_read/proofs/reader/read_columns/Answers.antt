@@ -1,9 +1,8 @@
-use Rattle.std.proofs.Common.{◌≡◌, ◌∙◌, ◌≤◌, List, ap, sym, subst, arith, length, Some}
+use Rattle.std.proofs.Common.{◌≡◌, ◌∙◌, ◌≤◌, ap, sym, arith, length}
 use Rattle.std.specs.Prelude.{map}
 use Rattle.std.proofs.lemmas.Result.{err_from_is_err_and}
 use Rattle.query_grammar.specs.Meaning.{IsQuery, names_of, selected}
 use Rattle.query_plan.specs.Seen.{pattern_seen}
-use Rattle.query_read.specs.Seen.{name_seen}
 use Rattle.query_read.proofs.NamesRead.{size_seen}
 use Rattle.query_read.proofs.PatternsLabelled.{query_labelled}
 use Rattle.query_read.proofs.ReaderLabels.{map_size, query_same}

@@ -1,4 +1,4 @@
-use Rattle.std.proofs.Common.{◌∙◌, sym, ap, ◌+◌}
+use Rattle.std.proofs.Common.{◌∙◌, sym, ap}
 use Rattle.std.specs.Prelude.{not}
 use Rattle.query_text.specs.Seen.{sign_seen}
 use Rattle.query_read.proofs.TermsKnown.{text_plain, text_typed}

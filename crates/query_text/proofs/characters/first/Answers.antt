@@ -1,4 +1,4 @@
-use Rattle.query_text.proofs.CharactersRead.{first_of, none_of}
+use Rattle.query_text.proofs.CharactersRead.{first_of}
 use Rattle.query_text.proofs.characters.first.Goals as goal
 
 pub returns : goal.returns

@@ -1,6 +1,6 @@
 use Rattle.std.proofs.Common.{ℕ, ◌<◌, List, sym, subst, arith, Option, Bor}
 use Rattle.query_text.specs.Reads.{ReadsNumber}
-use Rattle.query_text.proofs.EscapesRead.{hex_begins, hex_goes_on, hex_ends_early, hex_breaks_off, hex_done}
+use Rattle.query_text.proofs.EscapesRead.{hex_begins, hex_goes_on, hex_ends_early, hex_breaks_off}
 use Rattle.rdf_term.proofs.Hex.{small}
 use Rattle.query_text.proofs.escape.hex_number.Goals as goal
 

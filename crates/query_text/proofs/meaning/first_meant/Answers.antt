@@ -1,7 +1,5 @@
-use Rattle.std.proofs.Common.{ℕ, List, sym, subst, Option, Bor, arith, length}
-use Rattle.query_text.specs.Reads.{ReadsMeant}
 use Rattle.query_text.proofs.CharactersRead.{chars_nothing}
-use Rattle.query_text.proofs.EscapesRead.{plain_meant, escape_meant, bad_escape, meant_escape, plain_test}
+use Rattle.query_text.proofs.EscapesRead.{plain_meant, meant_escape, plain_test}
 use Rattle.query_text.proofs.meaning.first_meant.Goals as goal
 
 pub returns-in_err-c : goal.returns-in_err-c

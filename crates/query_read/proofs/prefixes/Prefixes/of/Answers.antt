@@ -1,4 +1,4 @@
-use Rattle.std.proofs.Common.{◌≡◌, ◌∙◌, ◌-◌, ℕ, List, Option, ap, sym, arith, drop}
+use Rattle.std.proofs.Common.{◌∙◌, ℕ, List, Option, ap, sym, arith, drop}
 use Rattle.query_grammar.specs.Lexemes.{Lexeme}
 use Rattle.query_grammar.specs.Texts.{declared, or_before}
 use Rattle.query_read.specs.Reads.{declared_first}

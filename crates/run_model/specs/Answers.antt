@@ -1,8 +1,11 @@
 -- The answers of commands and their texts (docs/SCRIPT.md, "Answers" and "Refusals"). Each line ends in LF.
-use Rattle.std.specs.Prelude.{ℕ, Bool, true, false, List, ◌++◌, codes, decimal, length}
+use Rattle.std.specs.Prelude.{ℕ, ◌-◌, ◌^◌, Bool, true, false, List, ◌++◌, codes, decimal, length, min}
 use Rattle.std.specs.List.{flat_map}
 use Rattle.rdf_model.specs.Terms.{Text}
 use Rattle.graph_shape.specs.GraphShapes.{Figures}
+use Rattle.query_grammar.specs.Meaning.{Column}
+use Rattle.solution_model.specs.Rows.{Row}
+use Rattle.solution_model.specs.Texts.{header_text, row_text}
 
 -- why a command was refused; a line by its number, from 1
 pub data Refusal : Type 0 where
@@ -26,12 +29,13 @@ pub data Reply : Type 0 where
   Shape : Reply
   Dump : (lines : ℕ) → Reply
 
--- Done: a last line alone
+-- Done: a last line alone. Listed: the rows of a query under its columns.
 pub data Answer : Type 0 where
   Done : (reply : Reply) → Answer
   Dumped : (lines : List Text) → Answer
   Counted : (figures : Figures) → Answer
   Shaped : (lines : List Text) → Answer
+  Listed : (columns : List Column) (rows : List Row) → Answer
   Refused : (cause : Refusal) → Answer
 
 abbrev pub refusal_text : Refusal → Text
@@ -61,11 +65,19 @@ line_text line = line ++ codes "\n"
 abbrev pub figures_text : Figures → Text
 figures_text f = codes "triples " ++ decimal f.triples ++ codes "\nterms " ++ decimal f.terms ++ codes "\ntwo " ++ decimal f.two ++ codes "\none " ++ decimal f.one ++ codes "\n"
 
+-- a number of rows, up to the greatest one of 64 bits
+abbrev pub rows_told : ℕ → ℕ
+rows_told n = min n (2 ^ 64 - 1)
+
+abbrev pub row_line : Row → Text
+row_line row = line_text (row_text row)
+
 abbrev pub answer_text : Answer → Text
 answer_text (Done reply) = reply_text reply
 answer_text (Dumped lines) = flat_map line_text lines ++ reply_text (Dump (length lines))
 answer_text (Counted figures) = figures_text figures ++ reply_text Stats
 answer_text (Shaped lines) = flat_map line_text lines ++ reply_text Shape
+answer_text (Listed columns rows) = line_text (header_text columns) ++ (flat_map row_line rows ++ reply_text (Rows (rows_told (length rows))))
 answer_text (Refused cause) = refusal_text cause
 
 abbrev pub is_refused : Answer → Bool
@@ -73,4 +85,5 @@ is_refused (Done reply) = false
 is_refused (Dumped lines) = false
 is_refused (Counted figures) = false
 is_refused (Shaped lines) = false
+is_refused (Listed columns rows) = false
 is_refused (Refused cause) = true

@@ -1,4 +1,5 @@
 pub mod Answers
+pub mod Questions
 pub mod Sayings
 pub mod Worlds
 pub mod Steps

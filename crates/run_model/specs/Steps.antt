@@ -6,14 +6,16 @@ use Rattle.rdf_model.specs.Terms.{Text}
 use Rattle.rdf_model.specs.Dumps.{dump_lines}
 use Rattle.rdf_model.specs.Graph.{Graph, with_all, without_all, added, gone}
 use Rattle.graph_shape.specs.GraphShapes.{figures_of, shape_lines}
-use Rattle.script_model.specs.Commands.{Change, Inserts, Deletes, Triples, OneLine, Dump, Stats, Shape, Command, Block, Single, Bad, Unended}
+use Rattle.script_model.specs.Commands.{Change, Inserts, Deletes, Triples, Question, OneLine, Dump, Stats, Shape, Command, Block, Single, Bad, Unended, question_of}
 use Rattle.run_model.specs.Answers.{Refusal, NoCommand, NoMemory, EndInBlock, New, Gone, Answer, Done, Dumped, Counted, Shaped, Refused, answer_text, is_refused}
 use Rattle.run_model.specs.Sayings.{Saying, sayings, triples_of, first_refusal}
+use Rattle.run_model.specs.Questions.{question_refusal, AnswersQuestion}
 use Rattle.run_model.specs.Worlds.{Config, World, FailedRead}
 
 -- the refusal of a command, or none; want of memory and failed reads aside
 abbrev pub refusal_of : Config → World → Command → Option Refusal
 refusal_of cfg W (Block (Triples change) lines) = first_refusal change cfg.most_triples W.graph (sayings [] lines)
+refusal_of cfg W (Block Question lines) = question_refusal (question_of lines)
 refusal_of cfg W (Single command) = None
 refusal_of cfg W Bad = Some NoCommand
 refusal_of cfg W Unended = Some EndInBlock
@@ -32,6 +34,7 @@ Answers G Shape a = a ≡ Shaped (shape_lines G)
 -- what a command that isn't refused does to a graph, and what it answers
 abbrev pub Does : Config → World → Command → Graph → Answer → Type 0
 Does cfg W (Block (Triples change) lines) H a = Changes change W.graph (sayings [] lines) H a
+Does cfg W (Block Question lines) H a = (H ≡ W.graph) × AnswersQuestion cfg.sorted W.graph (question_of lines) a
 Does cfg W (Single command) H a = (H ≡ W.graph) × Answers W.graph command a
 Does cfg W Bad H a = ⊥
 Does cfg W Unended H a = ⊥

@@ -1,9 +1,9 @@
 -- The commands of the lines of a script (docs/SCRIPT.md, "Lines and commands").
-use Rattle.std.specs.Prelude.{ℕ, Bool, true, false, List, [], ◌∷◌, ◌++◌, ◌==◌, if◌then◌else◌, Option, Some, None, codes, reverse}
+use Rattle.std.specs.Prelude.{ℕ, Bool, true, false, List, [], ◌∷◌, ◌++◌, ◌==◌, length, nat_le, if◌then◌else◌, Option, Some, None, codes, reverse}
 use Rattle.std.specs.List.{filter}
 use Rattle.std.specs.Str.{bytes_eq}
 use Rattle.text_lines.specs.Blanks.{after_blanks}
-use Rattle.text_lines.specs.Lines.{Line}
+use Rattle.text_lines.specs.Lines.{Line, longest}
 
 -- without the blanks at both ends
 abbrev pub trimmed : List ℕ → List ℕ
@@ -24,9 +24,10 @@ pub data Change : Type 0 where
   Inserts : Change
   Deletes : Change
 
--- what the lines of a block are: triples
+-- what the lines of a block are: triples, or a query
 pub data Kind : Type 0 where
   Triples : (change : Change) → Kind
+  Question : Kind
 
 -- a command that is one line
 pub data OneLine : Type 0 where
@@ -51,6 +52,7 @@ abbrev pub form_of_text : List ℕ → Option Form
 form_of_text t =
     if bytes_eq t (codes "INSERT") then Some (Begins (Triples Inserts)) else
     if bytes_eq t (codes "DELETE") then Some (Begins (Triples Deletes)) else
+    if bytes_eq t (codes "QUERY") then Some (Begins Question) else
     if bytes_eq t (codes "DUMP") then Some (Whole Dump) else
     if bytes_eq t (codes "STATS") then Some (Whole Stats) else
     if bytes_eq t (codes "SHAPE") then Some (Whole Shape) else None
@@ -58,6 +60,26 @@ form_of_text t =
 abbrev pub form_of : Line → Option Form
 form_of None = None
 form_of (Some l) = form_of_text (trimmed l)
+
+-- a line and its end before a text, where neither is too long
+abbrev pub line_before : Line → Option (List ℕ) → Option (List ℕ)
+line_before None text = None
+line_before (Some l) None = None
+line_before (Some l) (Some text) = Some (l ++ 10 ∷ text)
+
+-- lines, each with an LF; none where one is too long
+abbrev pub joined : List Line → Option (List ℕ)
+joined [] = Some []
+joined (l ∷ ls) = line_before l (joined ls)
+
+-- a text, unless it has more bytes than a line may have
+abbrev pub if_short : Option (List ℕ) → Option (List ℕ)
+if_short None = None
+if_short (Some text) = if nat_le (length text) longest then Some text else None
+
+-- the text of a query of these lines, or none where it is too long
+abbrev pub question_of : List Line → Option (List ℕ)
+question_of ls = if_short (joined ls)
 
 -- the line that ends a block: the two bytes alone
 abbrev pub ends_block : Line → Bool

@@ -2,12 +2,13 @@
 use Rattle.std.specs.Prelude.{◌≡◌, ◌↔◌, ℕ, true, false, List, [], ◌∷◌, ◌++◌, Some, None, codes}
 use Rattle.std.specs.List.{list_any}
 use Rattle.text_lines.specs.Lines.{Line}
-use Rattle.script_model.specs.Commands.{Inserts, Deletes, Kind, Triples, OneLine, Dump, Stats, Shape, Command, Block, Single, Bad, Unended, Form, Begins, Whole, skipped, form_of_text, form_of, ends_block, commands_of}
+use Rattle.script_model.specs.Commands.{Inserts, Deletes, Kind, Triples, Question, OneLine, Dump, Stats, Shape, Command, Block, Single, Bad, Unended, Form, Begins, Whole, skipped, form_of_text, form_of, ends_block, commands_of}
 
--- command ::= 'INSERT' | 'DELETE' | 'DUMP' | 'STATS' | 'SHAPE'
+-- command ::= 'INSERT' | 'DELETE' | 'QUERY' | 'DUMP' | 'STATS' | 'SHAPE'
 pub data IsForm : List ℕ → Form → Type 0 where
   insert : IsForm (codes "INSERT") (Begins (Triples Inserts))
   delete : IsForm (codes "DELETE") (Begins (Triples Deletes))
+  query : IsForm (codes "QUERY") (Begins Question)
   dump : IsForm (codes "DUMP") (Whole Dump)
   stats : IsForm (codes "STATS") (Whole Stats)
   shape : IsForm (codes "SHAPE") (Whole Shape)

@@ -6,6 +6,8 @@ pub enum Command {
     Insert,
     /// Begins a block of triples that are taken away.
     Delete,
+    /// Begins a block that is a query.
+    Query,
     /// Prints the graph.
     Dump,
     /// Prints how many triples, terms and rows there are.

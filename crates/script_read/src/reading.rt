@@ -16,6 +16,8 @@ const INSERT: &[u8] = b"INSERT";
 
 const DELETE: &[u8] = b"DELETE";
 
+const QUERY: &[u8] = b"QUERY";
+
 const DUMP: &[u8] = b"DUMP";
 
 const STATS: &[u8] = b"STATS";
@@ -61,6 +63,8 @@ pub fn command(line: &[u8]) -> Option<Command>
         Some(Command::Insert)
     } else if words == DELETE {
         Some(Command::Delete)
+    } else if words == QUERY {
+        Some(Command::Query)
     } else if words == DUMP {
         Some(Command::Dump)
     } else if words == STATS {

@@ -5,10 +5,11 @@ use tn_io::{Cut, MemSource};
 
 #[test]
 fn commands_of_lines(rt: HostRuntime) {
-    let lines: [(&[u8], Option<Command>); 15] = [
+    let lines: [(&[u8], Option<Command>); 16] = [
         (b"INSERT", Some(Command::Insert)),
         (b" \tINSERT\t ", Some(Command::Insert)),
         (b"DELETE", Some(Command::Delete)),
+        (b"\tQUERY", Some(Command::Query)),
         (b"DUMP", Some(Command::Dump)),
         (b"DUMP ", Some(Command::Dump)),
         (b"", None),

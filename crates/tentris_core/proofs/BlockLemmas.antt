@@ -27,6 +27,8 @@ use Rattle.tentris_core.specs.declared.outcome.Outcome.{Outcome}
 use Rattle.tentris_core.specs.declared.outcome.Outcome.TheVariants.{GoesOn, Answered, Cut}
 use Rattle.tentris_core.specs.Seen.{answer_of, Tells}
 use Rattle.tentris_core.specs.Puts.{WritesAnswer}
+use Rattle.tentris_core.specs.Questions.{AnswersQuestion}
+use Rattle.tentris_core.specs.declared.question.Question.{Question}
 use Rattle.tentris_core.specs.Batches as changed
 use Rattle.tentris_core.specs.Batches.{IsBatch, IsReady, IsCause, AreStaged, AreToGo, ChangesBy, ChangesStore}
 use Rattle.tentris_core.specs.Carrying.{Around, config_in, world_in, IsSound, Carries}
@@ -108,7 +110,14 @@ pub record IsInside (s now : State) (block : Block) : Type 0 where
 
 pub inside_at : (p : Position) (s now : State) (block : Block) → IsAt p s now (place.Inside block) → IsInside s now block
 inside_at Outside s now block h = absurd h
+inside_at (Inside script.Question body) s now block h = absurd h
 inside_at (Inside (script.Triples change) body) s now block h = record { change = change; body = body; is = h }
+
+-- a place in a query leaves the store as it was
+pub asks_at : (p : Position) (s now : State) (question : Question) → IsAt p s now (place.Asks question) → now ≡ s
+asks_at Outside s now question h = absurd h
+asks_at (Inside (script.Triples change) body) s now question h = absurd h
+asks_at (Inside script.Question body) s now question h = h.0
 
 -- ---- lines outside a block
 
@@ -184,6 +193,17 @@ ends_it l kind body told rest = ap (λ b. cond b (script.Block kind body ∷ scr
 
 pub goes_on : (l : Line) (kind : script.Kind) (body : List Line) → false ≡ script.ends_block l → (rest : List Line) → script.inside kind body (l ∷ rest) ≡ script.inside kind (body ++ l ∷ []) rest
 goes_on l kind body told rest = ap (λ b. cond b (script.Block kind body ∷ script.outside rest) (script.inside kind (body ++ l ∷ []) rest)) (sym told)
+
+-- the line that ends a query, and its answer
+pub question_leads : (A : Around) (l : Line) (body : List Line) (s : State) (before now : Option (List ℕ)) (outcome : Outcome) → true ≡ script.ends_block l → AnswersQuestion A body s before now outcome → LeadsOn A (Inside script.Question body) l s Outside s before now outcome
+question_leads A l body s before now outcome told h = by outcome h.writes where
+  ends : EndsCommand A (Inside script.Question body) l s Outside s
+  ends = record { command = script.Block script.Question body; closed = refl; are = ends_it l script.Question body told; answer = h.answer; failed = None; carries = h.carries }
+
+  by : (o : Outcome) → WritesAnswer before now o h.answer → LeadsOn A (Inside script.Question body) l s Outside s before now o
+  by GoesOn w = absurd w
+  by (Answered refused) w = (ends, w)
+  by Cut w = (ends, w)
 
 -- one line more of a block, as what it says
 pub sayings_push : (body : List Line) (l : Line) → sayings [] (body ++ l ∷ []) ≡ sayings [] body ++ says [] l ∷ []

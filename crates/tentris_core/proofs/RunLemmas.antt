@@ -4,7 +4,7 @@ use Rattle.std.specs.Prelude.{Option, Some, None, Ok, Err, Result, map}
 use Rattle.std.specs.List.{list_any, list_all, filter}
 use Rattle.std.specs.Io.KnownBytes.{append_known, prepend_known}
 use Rattle.text_lines.specs.Lines.{Line, lines_of, whole_lines_of}
-use Rattle.script_model.specs.Commands.{Command, Triples, Unended, is_closed, commands_of, closed_commands_of}
+use Rattle.script_model.specs.Commands.{Command, Triples, Question, Unended, is_closed, commands_of, closed_commands_of}
 use Rattle.run_model.specs.Answers.{answer_text, is_refused, Refused, EndInBlock}
 use Rattle.run_model.specs.Steps as steps
 use Rattle.run_model.specs.Steps.{commands_in, text_of, some_refused}
@@ -18,7 +18,6 @@ use Rattle.script_read.specs.ScriptCalls.{NextLine}
 use Rattle.script_read.specs.declared.script.ScriptFault.{ScriptFault}
 use Rattle.script_read.specs.declared.script.ScriptFault.TheVariants as fault
 use Rattle.script_read.proofs.ScriptLemmas.{at_start_is}
-use Rattle.tentris_core.specs.declared.block.Block.{Block}
 use Rattle.tentris_core.specs.declared.block.Place.{Place}
 use Rattle.tentris_core.specs.declared.block.Place.TheVariants as place
 use Rattle.tentris_core.specs.declared.outcome.Outcome.{Outcome}
@@ -28,7 +27,7 @@ use Rattle.tentris_core.specs.Places.{Position, Outside, Inside, IsAt, IsReadyAt
 use Rattle.tentris_core.specs.Puts.{IsPart}
 use Rattle.tentris_core.specs.declared.running.Status.{Status}
 use Rattle.tentris_core.specs.declared.running.Status.TheVariants.{Done, SomeRefused, BadWords, ReadFault, WriteFault, Memory, TooLong}
-use Rattle.tentris_core.specs.Endings.{Finishes}
+use Rattle.tentris_core.specs.Endings.{Finishes, EndsInBlock}
 use Rattle.tentris_core.specs.Runs.{Ends, RunsAll, RunsTaken, RunsFront, RunsCut, AreAllowed}
 use Rattle.tentris_core.proofs.BlockLemmas.{ready_batch}
 use Rattle.tentris_core.proofs.PassLemmas.{append_none}
@@ -87,6 +86,9 @@ pub ready : {mixed : ℕ → ℕ → ℕ → ℕ → ℕ} (p : Position) (s held
 ready {mixed} Outside s held place.Outside sound at = subst (IsSound mixed) (sym at) sound
 ready {mixed} Outside s held (place.Inside block) sound at = absurd at
 ready {mixed} (Inside kind body) s held place.Outside sound at = absurd at
+ready {mixed} (Inside Question body) s held (place.Inside block) sound at = absurd at
+ready {mixed} Outside s held (place.Asks question) sound at = tt
+ready {mixed} (Inside kind body) s held (place.Asks question) sound at = tt
 ready {mixed} (Inside (Triples change) body) s held (place.Inside block) sound at = ready_batch s change _ held block.batch sound at.batch
 
 all_more : (cs : List Command) (c : Command) → list_all is_closed cs ≡ true → is_closed c ≡ true → list_all is_closed (cs ++ c ∷ []) ≡ true
@@ -127,6 +129,9 @@ module _ (A : Around) (from held : store.State) (l0 l1 : Option (List ℕ)) (s :
     by Outside place.Outside a le t = omega arith
     by Outside (place.Inside block) a le t = absurd a
     by (Inside kind body) place.Outside a le t = absurd a
+    by (Inside Question body) (place.Inside block) a le t = absurd a
+    by Outside (place.Asks question) a le t = absurd a
+    by (Inside kind body) (place.Asks question) a le t = omega arith
     by (Inside (Triples change) body) (place.Inside block) a le t = omega (arith, short t, a.count)
 
   pub all_commands : commands_of h.told ≡ did ++ commands_from h.position []
@@ -183,12 +188,9 @@ module _ (A : Around) (from held : store.State) (l0 l1 : Option (List ℕ)) (s :
         none_left (Inside kind body) a = absurd a
 
   -- the script ends inside a block
-  module _ (l2 : Option (List ℕ)) (t : State) (block : Block) (is : spot ≡ place.Inside block) (n : NextLine l1 l2 s t (Ok None)) where
+  module _ (l2 : Option (List ℕ)) (t : State) (left : commands_from h.position [] ≡ Unended ∷ []) (n : NextLine l1 l2 s t (Ok None)) where
     unended : commands_of (lines_of (h.taken ++ n.q)) ≡ did ++ Unended ∷ []
-    unended = ap commands_of (n.tells max h.taken h.told h.tells).0 ∙ all_commands ∙ ap (λ z. did ++ z) (one_left h.position (subst (λ z. IsAt h.position h.last held z) is h.is_at)) where
-      one_left : (p : Position) → IsAt p h.last held (place.Inside block) → commands_from p [] ≡ Unended ∷ []
-      one_left Outside a = absurd a
-      one_left (Inside kind body) a = refl
+    unended = ap commands_of (n.tells max h.taken h.told h.tells).0 ∙ all_commands ∙ ap (λ z. did ++ z) left
 
     abbrev refusal : StoreEvent
     refusal = record { command = Unended; answer = Refused EndInBlock; failed = None; store = h.last }
@@ -341,15 +343,25 @@ module _ (A : Around) (from held : store.State) (l0 l1 : Option (List ℕ)) (s :
     outside_ends q e o true r then w = subst (λ b. RunsAll A b from h.last l0 l2 before then) r (subst (λ z. RunsAll A refused from h.last l0 l2 before z) (sym w) (run_ends l2 t (e ∙ o) n))
     outside_ends q e o false r then w = subst (λ b. RunsAll A b from h.last l0 l2 before then) r (subst (λ z. RunsAll A refused from h.last l0 l2 before z) (sym w) (run_ends l2 t (e ∙ o) n))
 
+    inside_ends : commands_from h.position [] ≡ Unended ∷ [] → (status : Status) → EndsInBlock (written old.sink.now) (written new.sink.now) status → Ends status A from h.last l0 l2 before (written new.sink.now)
+    inside_ends left SomeRefused f = run_ends_inside l2 t left n (written new.sink.now) (f ∙ ap (λ z. append_known z (answer_text (Refused EndInBlock))) (sym is))
+    inside_ends left WriteFault f = run_ends_cut l2 t left n (written new.sink.now) (subst (λ z. IsPart z (written new.sink.now) (answer_text (Refused EndInBlock))) (sym is) f)
+    inside_ends left Done f = absurd f
+    inside_ends left BadWords f = absurd f
+    inside_ends left ReadFault f = absurd f
+    inside_ends left Memory f = absurd f
+    inside_ends left TooLong f = absurd f
+
+    one_left : (p : Position) (q : Place) → IsAt p h.last held q → (q ≡ place.Outside → ⊥) → commands_from p [] ≡ Unended ∷ []
+    one_left Outside place.Outside a other = absurd (other refl)
+    one_left Outside (place.Inside block) a other = absurd a
+    one_left Outside (place.Asks question) a other = absurd a
+    one_left (Inside kind body) q a other = refl
+
     by : (q : Place) → spot ≡ q → (status : Status) → Finishes written q refused old new status → Ends status A from h.last l0 l2 before (written new.sink.now)
     by place.Outside e status f = subst (λ z. Ends z A from h.last l0 l2 before (written new.sink.now)) (sym f.0) (outside_ends place.Outside e refl refused refl (written new.sink.now) (f.1 ∙ sym is))
-    by (place.Inside block) e SomeRefused f = run_ends_inside l2 t block e n (written new.sink.now) (f ∙ ap (λ z. append_known z (answer_text (Refused EndInBlock))) (sym is))
-    by (place.Inside block) e WriteFault f = run_ends_cut l2 t block e n (written new.sink.now) (subst (λ z. IsPart z (written new.sink.now) (answer_text (Refused EndInBlock))) (sym is) f)
-    by (place.Inside block) e Done f = absurd f
-    by (place.Inside block) e BadWords f = absurd f
-    by (place.Inside block) e ReadFault f = absurd f
-    by (place.Inside block) e Memory f = absurd f
-    by (place.Inside block) e TooLong f = absurd f
+    by (place.Inside block) e status f = inside_ends (one_left h.position (place.Inside block) (subst (λ z. IsAt h.position h.last held z) e h.is_at) (λ o. let f : ⊥ = cc in f)) status f
+    by (place.Asks question) e status f = inside_ends (one_left h.position (place.Asks question) (subst (λ z. IsAt h.position h.last held z) e h.is_at) (λ o. let f : ⊥ = cc in f)) status f
 
 -- a call of the next line, by what it answered
 pub next_at : {a b : Option (List ℕ)} {s t : State} (r q : Result (Option Cut) ScriptFault) → r ≡ q → NextLine a b s t r → NextLine a b s t q

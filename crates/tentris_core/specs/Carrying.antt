@@ -1,6 +1,6 @@
 -- What one command does to a store, and a run of commands over stores. `Step` and `Run` say it of worlds; a refused command leaves the
 -- whole store as it was, and after each command the store is settled, and its tables are the shape of its graph.
-use Rattle.std.specs.Prelude.{◌≡◌, ℕ, Bool, true, List, [], ◌∷◌, Option, map}
+use Rattle.std.specs.Prelude.{◌≡◌, ℕ, Bool, true, false, List, [], ◌∷◌, Option, map}
 use Rattle.file_model.specs.FileMap.{FileMap}
 use Rattle.script_model.specs.Commands.{Command}
 use Rattle.run_model.specs.Answers.{Answer, is_refused}
@@ -18,8 +18,9 @@ pub record Around : Type 0 where
   pub most_bytes : ℕ
   pub files : Option FileMap
 
+-- rows aren't sorted
 abbrev pub around : (ℕ → ℕ → ℕ → ℕ → ℕ) → Settings → Option FileMap → Around
-around mixed settings files = record { mixed = mixed; sorted = settings.sorted; most_bytes = settings.most_bytes; files = files }
+around mixed settings files = record { mixed = mixed; sorted = false; most_bytes = settings.most_bytes; files = files }
 
 abbrev pub config_in : Around → State → Config
 config_in A s = record { sorted = A.sorted; most_triples = s.max; most_bytes = A.most_bytes }

@@ -10,9 +10,14 @@ use Rattle.tentris_core.specs.declared.block.Place.{Place}
 use Rattle.tentris_core.specs.declared.block.Place.TheVariants as place
 use Rattle.tentris_core.specs.Puts.{IsPart}
 
+-- The block that a script ends in was refused, or a front of the refusal was written and then a write failed.
+abbrev pub EndsInBlock : Option (List ℕ) → Option (List ℕ) → Status → Type 0
+EndsInBlock before now SomeRefused = now ≡ append_known before (answer_text (Refused EndInBlock))
+EndsInBlock before now WriteFault = IsPart before now (answer_text (Refused EndInBlock))
+EndsInBlock before now other = ⊥
+
 -- A script that ends outside a block has been answered. One that ends inside a block gets one refusal more.
 abbrev pub Finishes : {K : Type 0} → (K → Option (List ℕ)) → Place → Bool → Out K → Out K → Status → Type 0
 Finishes written place.Outside refused old new status = (status ≡ (if refused then SomeRefused else Done)) × (written new.sink.now ≡ written old.sink.now)
-Finishes written (place.Inside block) refused old new SomeRefused = written new.sink.now ≡ append_known (written old.sink.now) (answer_text (Refused EndInBlock))
-Finishes written (place.Inside block) refused old new WriteFault = IsPart (written old.sink.now) (written new.sink.now) (answer_text (Refused EndInBlock))
-Finishes written (place.Inside block) refused old new other = ⊥
+Finishes written (place.Inside block) refused old new status = EndsInBlock (written old.sink.now) (written new.sink.now) status
+Finishes written (place.Asks question) refused old new status = EndsInBlock (written old.sink.now) (written new.sink.now) status

@@ -16,6 +16,7 @@ use Rattle.tentris_core.specs.declared.block.Place.TheVariants as place
 use Rattle.tentris_core.specs.Seen.{answer_of}
 use Rattle.tentris_core.specs.Puts.{WritesAnswer}
 use Rattle.tentris_core.specs.Batches.{IsBatch, IsReady}
+use Rattle.tentris_core.specs.Questions.{IsGathered}
 use Rattle.tentris_core.specs.Carrying.{Around, IsSound, Carries}
 
 -- outside a block, or in a block that has had some lines
@@ -44,16 +45,22 @@ IsAt Outside s now place.Outside = now ≡ s
 IsAt Outside s now (place.Inside block) = ⊥
 IsAt (Inside kind body) s now place.Outside = ⊥
 IsAt (Inside (script.Triples change) body) s now (place.Inside block) = IsBlock s change body now block
+IsAt (Inside script.Question body) s now (place.Inside block) = ⊥
+IsAt Outside s now (place.Asks question) = ⊥
+IsAt (Inside (script.Triples change) body) s now (place.Asks question) = ⊥
+IsAt (Inside script.Question body) s now (place.Asks question) = (now ≡ s) × IsGathered body question
 
 -- how many lines the block of a place has had
 abbrev pub lines_in : Place → ℕ
 lines_in place.Outside = 0
 lines_in (place.Inside block) = block.lines
+lines_in (place.Asks question) = 0
 
 -- the store can carry out a command outside a block, or the block of the place
 abbrev pub IsReadyAt : (ℕ → ℕ → ℕ → ℕ → ℕ) → State → Place → Type 0
 IsReadyAt mixed now place.Outside = IsSound mixed now
 IsReadyAt mixed now (place.Inside block) = IsReady now block.batch
+IsReadyAt mixed now (place.Asks question) = Unit {0}
 
 -- A line leads on from one position to another, and ends no command.
 abbrev pub GoesTo : Position → Line → Position → Type 0

@@ -1,15 +1,26 @@
 -- What is known of the lines of a query's block, and what its answer writes.
-use Rattle.std.specs.Prelude.{◌≡◌, ℕ, List, Option, Some, None}
+use Rattle.std.specs.Prelude.{◌≡◌, ℕ, List, [], Option, Some, None, Result, OnOk, OnErr}
+use Rattle.rdf_model.specs.Terms.{Term}
 use Rattle.text_lines.specs.Lines.{Line}
 use Rattle.script_model.specs.Commands as script
 use Rattle.script_model.specs.Commands.{question_of}
+use Rattle.query_grammar.specs.Meaning as meaning
+use Rattle.query_grammar.specs.Meaning.{Column}
+use Rattle.bag_model.specs.Listings.{Listing, MayGive}
+use Rattle.solution_model.specs.Rows.{Row}
 use Rattle.run_model.specs.Answers as model
+use Rattle.run_model.specs.Answers.{answer_text, Listed}
+use Rattle.run_model.specs.Questions.{fault_refusal}
 use Rattle.graph_store.specs.State.{State}
+use Rattle.answer_text.specs.declared.Refusal.{Refusal}
 use Rattle.answer_text.specs.declared.Refusal.TheVariants as cause
+use Rattle.answer_text.specs.Seen.{refusal_of}
+use Rattle.tn_io.specs.declared.out.Out.{Out}
+use Rattle.tn_io.specs.declared.outside.Failed.{Failed}
 use Rattle.tentris_core.specs.declared.question.Question.{Question}
 use Rattle.tentris_core.specs.declared.question.Question.TheVariants.{Text, Refused}
 use Rattle.tentris_core.specs.declared.outcome.Outcome.{Outcome}
-use Rattle.tentris_core.specs.Puts.{WritesAnswer}
+use Rattle.tentris_core.specs.Puts.{PassesOn, WritesAnswer}
 use Rattle.tentris_core.specs.Carrying.{Around, Carries}
 
 -- what the lines of the block say so far: their text, or that it is too long
@@ -19,8 +30,19 @@ IsGathered body (Refused cause.Long) = question_of body ≡ None
 IsGathered body (Refused cause.Memory) = Unit {0}
 IsGathered body (Refused other) = ⊥
 
+-- the refusal is that of the first fault, or memory ran out
+abbrev pub IsFault : meaning.Answer → Refusal → Type 0
+IsFault answer cause.Memory = Unit {0}
+IsFault answer other = fault_refusal answer ≡ Some (refusal_of other)
+
 -- A query of these lines was answered over the store s, which it leaves as it was.
 pub record AnswersQuestion (A : Around) (body : List Line) (s : State) (before now : Option (List ℕ)) (outcome : Outcome) : Type 0 where
   pub answer : model.Answer
   pub carries : Carries A s (script.Block script.Question body) s answer None
   pub writes : WritesAnswer before now outcome answer
+
+-- Rows that the listing may give were passed on whole as an answer, or a front of it and then a fault.
+pub record PassesAnswer {K : Type 0} (written : K → Option (List ℕ)) (faults : K → ℕ) (old new : Out K) (result : Result (Unit {0}) Failed) (columns : List Column) (s : Listing Term) : Type 0 where
+  pub rows : List Row
+  pub given : MayGive s rows
+  pub passes : PassesOn written faults old new result (answer_text (Listed columns rows))

@@ -152,11 +152,11 @@ impl Batch {
     }
 
     /// Puts in what is staged, or takes out what is marked.
-    pub(crate) fn carry_out<M: Mix, W: Ledger, V: Ledger>(
+    pub(crate) fn carry_out<M: Mix, W: Ledger, V: Ledger, U: Ledger>(
         self,
         alloc: Global,
         store: &mut Store<M>,
-        counts: &mut Counts<W, V>,
+        counts: &mut Counts<W, V, U>,
     ) -> Answer
         requires ready { IsReady store.old self }
         ensures { (s : State) (change : script.Change) (said : List Saying) → IsSound M.mixed s → IsBatch s change said store.old self
@@ -182,11 +182,11 @@ impl Batch {
 }
 
 // Puts the staged triples in.
-fn put_in<M: Mix, W: Ledger, V: Ledger>(
+fn put_in<M: Mix, W: Ledger, V: Ledger, U: Ledger>(
     alloc: Global,
     store: &mut Store<M>,
     staged: Staged,
-    counts: &mut Counts<W, V>,
+    counts: &mut Counts<W, V, U>,
 ) -> Answer
     requires fits { Fits store.old staged }
     ensures { (s : State) (said : List Saying) → IsSound M.mixed s → AreStaged s said store.old staged
@@ -202,11 +202,11 @@ fn put_in<M: Mix, W: Ledger, V: Ledger>(
 }
 
 // Takes the marked triples out.
-fn take_out<M: Mix, W: Ledger, V: Ledger>(
+fn take_out<M: Mix, W: Ledger, V: Ledger, U: Ledger>(
     alloc: Global,
     store: &mut Store<M>,
     taken: Taken,
-    counts: &mut Counts<W, V>,
+    counts: &mut Counts<W, V, U>,
 ) -> Answer
     requires ready { IsReady store.old (Deletes taken) }
     ensures { (said : List Saying) → IsSound M.mixed store.old → AreToGo store.old said taken

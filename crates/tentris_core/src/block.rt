@@ -1,7 +1,7 @@
 //! The lines of blocks, and the commands that lines outside blocks give.
 //!
 //! A block's lines are judged as they come; the graph is changed once, where the block ends.
-ghost use Rattle.std.specs.Prelude.{◌≡◌, ◌≤◌, ◌+◌, ◌<◌, ◌-◌, ◌^◌, ◌++◌, ◌∷◌, [], List, length, IfSome, None};
+ghost use Rattle.std.specs.Prelude.{◌≡◌, ◌≤◌, ◌+◌, ◌<◌, ◌-◌, ◌^◌, ◌++◌, ◌∷◌, [], List, length, IfSome, None, false};
 ghost use Rattle.text_lines.specs.Lines.{Line};
 ghost use Rattle.script_model.specs.Commands as script;
 ghost use Rattle.graph_store.specs.State.{State, IsSettled};
@@ -11,11 +11,13 @@ ghost use Rattle.tentris_core.specs.Carrying.{Around, around, IsSound, Carries};
 ghost use Rattle.tentris_core.specs.Places.{IsBlock, IsAt, IsReadyAt, MeetsLine, TakesLine, Position, Outside, Inside, lines_in};
 ghost use Rattle.tentris_core.specs.Puts.{IsPassedOn, HasOutcome};
 ghost use Rattle.tentris_core.specs.Seen.{Tells};
+ghost use Rattle.tentris_core.specs.Questions.{IsGathered};
 
 use crate::answer::Answer;
 use crate::batch::Batch;
 use crate::counts::Counts;
 use crate::outcome::{Outcome, pass_on};
+use crate::question::Question;
 use crate::settings::Settings;
 use answer_text::Refusal;
 use graph_store::{Staged, Store, Taken};
@@ -39,6 +41,7 @@ pub struct Block {
 pub enum Place {
     Outside,
     Inside(Block),
+    Asks(Question),
 }
 
 impl Block {
@@ -76,6 +79,7 @@ impl Place {
                 let Block { lines: _, batch } = block;
                 batch.abandon(store);
             }
+            Place::Asks(question) => drop(question),
         }
     }
 }
@@ -122,6 +126,7 @@ fn outside<M: Mix>(alloc: Global, store: &Store<M>, line: Option<&[u8]>) -> (Pla
     match command(bytes) {
         Some(Command::Insert) => (begin_insert(alloc, store), None),
         Some(Command::Delete) => (begin_delete(alloc), None),
+        Some(Command::Query) => (Place::Asks(Question::new(alloc)), None),
         Some(Command::Dump) => (Place::Outside, Some(dump(alloc, store))),
         Some(Command::Stats) => (Place::Outside, Some(stats(store))),
         Some(Command::Shape) => (Place::Outside, Some(shape(alloc, store))),
@@ -163,14 +168,14 @@ fn ends(line: Option<&[u8]>) -> bool
 }
 
 // Takes a line of a block.
-fn inside<M: Mix, W: Ledger, V: Ledger>(
+fn inside<M: Mix, W: Ledger, V: Ledger, U: Ledger>(
     alloc: Global,
     settings: Settings,
     store: &mut Store<M>,
     block: Block,
     line: Option<&[u8]>,
     scratch: &mut Scratch,
-    counts: &mut Counts<W, V>,
+    counts: &mut Counts<W, V, U>,
 ) -> (Place, Option<Answer>)
     requires short { IfSome line (λ l. length l.now ≤ 1048576) }
     requires room { block.lines < 2 ^ 64 - 1 }
@@ -184,6 +189,30 @@ fn inside<M: Mix, W: Ledger, V: Ledger>(
         return (Place::Outside, Some(answer));
     }
     (Place::Inside(block.with_line(store, line, scratch)), None)
+}
+
+// Takes a line of a query.
+fn asks<M: Mix, K: Sink, W: Ledger, V: Ledger, U: Ledger>(
+    alloc: Global,
+    store: &Store<M>,
+    question: Question,
+    line: Option<&[u8]>,
+    counts: &mut Counts<W, V, U>,
+    out: &mut Out<'_, K>,
+) -> (Place, Outcome)
+    requires short { IfSome line (λ l. length l.now ≤ 1048576) }
+    requires empty { out.old.buffer ≡ [] }
+    ensures same_sink { out.new.sink.ghost_name ≡ out.old.sink.ghost_name }
+    ensures takes { (A : Around) (body : List Line) → A.sorted ≡ false → IsSound A.mixed store.now → IsGathered body question
+        → TakesLine A (Inside script.Question body) (lent_line line.entry) store.now store.now result.0 (K.written out.old.sink.now) (K.written out.new.sink.now) result.1 }
+    ensures empty { IsPassedOn result.1 out.new }
+    ensures cause { HasOutcome (K.faults out.old.sink.now) (K.faults out.new.sink.now) result.1 }
+{
+    if ends(line) {
+        let outcome = question.answer(alloc, store, &mut counts.reads, out);
+        return (Place::Outside, outcome);
+    }
+    (Place::Asks(question.with_line(line)), Outcome::GoesOn)
 }
 
 // Passes an answer on, if there is one.
@@ -201,14 +230,14 @@ fn tell<K: Sink>(out: &mut Out<'_, K>, answer: Option<Answer>) -> Outcome
 }
 
 /// Takes a line, and passes on the answer of the command that it ends.
-pub fn take_line<M: Mix, K: Sink, W: Ledger, V: Ledger>(
+pub fn take_line<M: Mix, K: Sink, W: Ledger, V: Ledger, U: Ledger>(
     alloc: Global,
     settings: Settings,
     store: &mut Store<M>,
     place: Place,
     line: Option<&[u8]>,
     scratch: &mut Scratch,
-    counts: &mut Counts<W, V>,
+    counts: &mut Counts<W, V, U>,
     out: &mut Out<'_, K>,
 ) -> (Place, Outcome)
     requires short { IfSome line (λ l. length l.now ≤ 1048576) }
@@ -226,6 +255,7 @@ pub fn take_line<M: Mix, K: Sink, W: Ledger, V: Ledger>(
             let (next, answer) = outside(alloc, store, line);
             (next, tell(out, answer))
         }
+        Place::Asks(question) => asks(alloc, store, question, line, counts, out),
         Place::Inside(block) => {
             let (next, answer) = inside(alloc, settings, store, block, line, scratch, counts);
             (next, tell(out, answer))

@@ -6,6 +6,7 @@ mod batch;
 mod block;
 mod counts;
 mod outcome;
+mod question;
 mod running;
 mod settings;
 

@@ -1,25 +1,29 @@
-//! The lines of a query's block, and its answer: rows are put one by one as the listing gives them, or, where rows are
-//! sorted, once all of them are in order.
-ghost use Rattle.std.specs.Prelude.{◌≡◌, ◌≤◌, ◌∷◌, ◌++◌, [], List, length, IfSome, OnOk, OnErr, None};
+//! The lines of a query's block, and its answer. Rows are put one by one as the listing gives them.
+ghost use Rattle.std.specs.Prelude.{◌≡◌, ◌≤◌, ◌∷◌, ◌++◌, [], List, ℕ, false, length, IfSome, OnOk, Some, Err};
 ghost use Rattle.text_lines.specs.Lines.{Line};
-ghost use Rattle.script_model.specs.Commands as script;
-ghost use Rattle.graph_store.specs.State.{State};
+ghost use Rattle.script_model.specs.Commands.{question_of};
+ghost use Rattle.query_grammar.specs.Meaning.{IsQuery, query_of};
+ghost use Rattle.query_grammar.specs.Meaning as meaning;
+ghost use Rattle.query_plan.specs.Labels.{IsLabelled};
+ghost use Rattle.query_plan.specs.Seen.{query_seen};
+ghost use Rattle.query_read.specs.Reads.{Reads};
+ghost use Rattle.listing_text.specs.Rows.{HasWidth};
 ghost use Rattle.tentris_core.specs.Batches.{lent_line};
-ghost use Rattle.tentris_core.specs.Carrying.{around, IsSound};
+ghost use Rattle.tentris_core.specs.Carrying.{Around, IsSound};
 ghost use Rattle.tentris_core.specs.Puts.{IsPassedOn, HasOutcome};
-ghost use Rattle.tentris_core.specs.Questions.{IsGathered, AnswersQuestion};
+ghost use Rattle.tentris_core.specs.Questions.{IsGathered, IsFault, AnswersQuestion, PassesAnswer};
 
 use crate::answer::Answer;
 use crate::outcome::{Outcome, pass_on};
-use crate::settings::Settings;
 use answer_text::Refusal;
-use graph_store::Store;
+use graph_store::{Listing, Store};
 use listing_text::put_listing;
 use query_plan::Query;
 use query_read::{ReadFault, read};
-use std::alloc::{AllocError, Global};
+use std::alloc::Global;
+use std::sync::ledger::Ledger;
 use tn_io::{Failed, Out, Sink};
-use trie_depth::Mix;
+use trie_depth::{Memory, Mix, Steps};
 
 // The greatest number of bytes of a query's text.
 const MOST: usize = 1_048_576;
@@ -34,11 +38,12 @@ pub enum Question {
 }
 
 // Adds a line and its end.
-fn add(text: &mut Vec<u8>, line: &[u8]) -> Result<(), AllocError>
+fn add(text: &mut Vec<u8>, line: &[u8]) -> Result<(), Memory>
     ensures ok { OnOk result (text.new.items ≡ text.old.items ++ (line.now ++ 10 ∷ [])) }
 {
     text.extend_from_slice(line)?;
-    text.push(b'\n')
+    text.push(b'\n')?;
+    Ok(())
 }
 
 impl Question {
@@ -59,17 +64,115 @@ impl Question {
             Question::Text(text) => with_text(text, line),
         }
     }
+
+    /// Answers the query.
+    pub(crate) fn answer<M: Mix, K: Sink, U: Ledger>(
+        self,
+        alloc: Global,
+        store: &Store<M>,
+        reads: &mut Steps<U>,
+        out: &mut Out<'_, K>,
+    ) -> Outcome
+        requires empty { out.old.buffer ≡ [] }
+        ensures same_sink { out.new.sink.ghost_name ≡ out.old.sink.ghost_name }
+        ensures answers { (A : Around) (body : List Line) → A.sorted ≡ false → IsSound A.mixed store.now → IsGathered body self
+            → AnswersQuestion A body store.now (K.written out.old.sink.now) (K.written out.new.sink.now) result }
+        ensures empty { IsPassedOn result out.new }
+        ensures cause { HasOutcome (K.faults out.old.sink.now) (K.faults out.new.sink.now) result }
+    {
+        match self {
+            Question::Refused(cause) => pass_on(out, &Answer::Refused(cause)),
+            Question::Text(text) => ask(alloc, store, &text, reads, out),
+        }
+    }
+}
+
+// Answers the query of a text.
+fn ask<M: Mix, K: Sink, U: Ledger>(
+    alloc: Global,
+    store: &Store<M>,
+    text: &[u8],
+    reads: &mut Steps<U>,
+    out: &mut Out<'_, K>,
+) -> Outcome
+    requires empty { out.old.buffer ≡ [] }
+    ensures same_sink { out.new.sink.ghost_name ≡ out.old.sink.ghost_name }
+    ensures answers { (A : Around) (body : List Line) → A.sorted ≡ false → IsSound A.mixed store.now → question_of body ≡ Some text.now
+        → AnswersQuestion A body store.now (K.written out.old.sink.now) (K.written out.new.sink.now) result }
+    ensures empty { IsPassedOn result out.new }
+    ensures cause { HasOutcome (K.faults out.old.sink.now) (K.faults out.new.sink.now) result }
+{
+    match read(alloc, text) {
+        Ok(query) => list(alloc, store, &query, reads, out),
+        Err(fault) => pass_on(out, &Answer::Refused(cause_of(fault))),
+    }
+}
+
+// Why a query is refused that can't be read.
+fn cause_of(fault: ReadFault) -> Refusal
+    ensures { (answer : meaning.Answer) → Reads answer (Err fault) → IsFault answer result }
+{
+    match fault {
+        ReadFault::NotQuery => Refusal::Query,
+        ReadFault::NoPrefix => Refusal::Prefix,
+        ReadFault::TooManyPatterns | ReadFault::TooManyColumns | ReadFault::TooLarge => {
+            Refusal::Size
+        }
+        ReadFault::Memory => Refusal::Memory,
+    }
+}
+
+// Puts the answer of a query, whose listing this is, and passes it on whole.
+fn put_whole<K: Sink, U: Ledger>(
+    query: &Query,
+    listing: Listing<'_>,
+    reads: &mut Steps<U>,
+    out: &mut Out<'_, K>,
+) -> Result<(), Failed>
+    requires columns { length query.now.columns ≡ length listing.columns }
+    requires wide { HasWidth listing }
+    requires empty { out.old.buffer ≡ [] }
+    ensures same_sink { out.new.sink.ghost_name ≡ out.old.sink.ghost_name }
+    ensures text { PassesAnswer K.written K.faults out.old out.new result (query_seen query.now).columns listing.entry }
+{
+    put_listing(query, listing, out, reads)?;
+    out.flush()
+}
+
+// Answers a query that was read.
+fn list<M: Mix, K: Sink, U: Ledger>(
+    alloc: Global,
+    store: &Store<M>,
+    query: &Query,
+    reads: &mut Steps<U>,
+    out: &mut Out<'_, K>,
+) -> Outcome
+    requires labelled { IsLabelled query.now }
+    requires empty { out.old.buffer ≡ [] }
+    ensures same_sink { out.new.sink.ghost_name ≡ out.old.sink.ghost_name }
+    ensures answers { (A : Around) (body : List Line) (text : List ℕ) → A.sorted ≡ false → IsSound A.mixed store.now → question_of body ≡ Some text → query_of text ≡ IsQuery (query_seen query.now)
+        → AnswersQuestion A body store.now (K.written out.old.sink.now) (K.written out.new.sink.now) result }
+    ensures empty { IsPassedOn result out.new }
+    ensures cause { HasOutcome (K.faults out.old.sink.now) (K.faults out.new.sink.now) result }
+{
+    match store.listing(alloc, query) {
+        Ok(listing) => match put_whole(query, listing, reads, out) {
+            Ok(()) => Outcome::Answered(false),
+            Err(_) => Outcome::Cut,
+        },
+        Err(_) => pass_on(out, &Answer::Refused(Refusal::Memory)),
+    }
 }
 
 // A text with one more line.
 fn with_text(mut text: Vec<u8>, line: Option<&[u8]>) -> Question
     requires short { IfSome line (λ l. length l.now ≤ 1048576) }
-    ensures { (body : List Line) → script.question_of body ≡ Some text.entry.items → IsGathered (body ++ lent_line line.entry ∷ []) result }
+    ensures { (body : List Line) → question_of body ≡ Some text.items → IsGathered (body ++ lent_line line.entry ∷ []) result }
 {
     let Some(line) = line else {
         return Question::Refused(Refusal::Long);
     };
-    if MOST - text.len() <= line.len() {
+    if MOST.saturating_sub(text.len()) <= line.len() {
         return Question::Refused(Refusal::Long);
     }
     match add(&mut text, line) {

@@ -2,7 +2,7 @@
 //!
 //! The script is read line by line; each command is carried out whole, or refused, and its answer passed on whole
 //! before the next line is read.
-ghost use Rattle.std.specs.Prelude.{◌≡◌, ◌≤◌, ◌<◌, [], length, IfSome, ◌↔◌, ◌≢◌, None, false};
+ghost use Rattle.std.specs.Prelude.{◌≡◌, ◌≤◌, ◌<◌, [], length, IfSome, ◌↔◌, ◌≢◌, None};
 ghost use Rattle.tn_io.specs.Causes.{Rose};
 ghost use Rattle.tn_io.specs.CutterState.{line_told};
 ghost use Rattle.tentris_core.specs.Batches.{lent_line};
@@ -11,7 +11,7 @@ ghost use Rattle.tentris_core.specs.Carrying.{IsSound, around};
 ghost use Rattle.graph_store.specs.State.{State, IsSettled};
 ghost use Rattle.graph_store.specs.Stands.{Stands};
 ghost use Rattle.tentris_core.specs.Runs.{Ends};
-ghost use Rattle.tentris_core.specs.Endings.{Finishes};
+ghost use Rattle.tentris_core.specs.Endings.{Finishes, EndsInBlock};
 ghost use Rattle.script_read.specs.ScriptState.{at_start};
 
 use crate::answer::Answer;
@@ -81,6 +81,21 @@ fn told_line(cut: Cut, script: &Script) -> Option<&[u8]>
     }
 }
 
+// Refuses the block that the script ends in.
+fn refuse_unended<K: Sink>(out: &mut Out<'_, K>) -> Status
+    requires empty { out.old.buffer ≡ [] }
+    ensures same_sink { out.new.sink.ghost_name ≡ out.old.sink.ghost_name }
+    ensures ends { EndsInBlock (K.written out.old.sink.now) (K.written out.new.sink.now) result }
+    ensures later { K.faults out.old.sink.now ≤ K.faults out.new.sink.now }
+    ensures fault { result ≡ Status.WriteFault → Rose (K.faults out.old.sink.now) (K.faults out.new.sink.now) }
+{
+    let answer = Answer::Refused(Refusal::Unended);
+    match pass_on(out, &answer) {
+        Outcome::Cut => Status::WriteFault,
+        Outcome::GoesOn | Outcome::Answered(_) => Status::SomeRefused,
+    }
+}
+
 // The script has ended: a block without its end is refused.
 fn finish<M: Mix, K: Sink>(
     place: Place,
@@ -107,17 +122,17 @@ fn finish<M: Mix, K: Sink>(
         Place::Inside(block) => {
             let Block { lines: _, batch } = block;
             batch.abandon(store);
-            let answer = Answer::Refused(Refusal::Unended);
-            match pass_on(out, &answer) {
-                Outcome::Cut => Status::WriteFault,
-                Outcome::GoesOn | Outcome::Answered(_) => Status::SomeRefused,
-            }
+            refuse_unended(out)
+        }
+        Place::Asks(question) => {
+            drop(question);
+            refuse_unended(out)
         }
     }
 }
 
 // Carries out the script, from its first line on.
-fn carry_out<M: Mix, S: Source, K: Sink, W: Ledger, V: Ledger>(
+fn carry_out<M: Mix, S: Source, K: Sink, W: Ledger, V: Ledger, U: Ledger>(
     alloc: Global,
     settings: Settings,
     script: &mut Script,
@@ -125,7 +140,7 @@ fn carry_out<M: Mix, S: Source, K: Sink, W: Ledger, V: Ledger>(
     store: &mut Store<M>,
     source: &mut S,
     out: &mut Out<'_, K>,
-    counts: &mut Counts<W, V>,
+    counts: &mut Counts<W, V, U>,
 ) -> Status
     requires start { script.old ≡ at_start settings.most_bytes }
     requires few { settings.most_bytes ≤ 1099511627776 }
@@ -170,7 +185,7 @@ fn carry_out<M: Mix, S: Source, K: Sink, W: Ledger, V: Ledger>(
 }
 
 // Carries out the script with buffers and counters of its own.
-fn run_script<M: Mix, S: Source, K: Sink, W: Ledger, V: Ledger>(
+fn run_script<M: Mix, S: Source, K: Sink, W: Ledger, V: Ledger, U: Ledger>(
     alloc: Global,
     settings: Settings,
     store: &mut Store<M>,
@@ -178,6 +193,7 @@ fn run_script<M: Mix, S: Source, K: Sink, W: Ledger, V: Ledger>(
     sink: &mut K,
     interns: Blank,
     retains: Blank,
+    reads: Blank,
 ) -> Status
     requires sound { IsSound M.mixed store.old }
     requires few { settings.most_bytes ≤ 1099511627776 }
@@ -187,6 +203,9 @@ fn run_script<M: Mix, S: Source, K: Sink, W: Ledger, V: Ledger>(
     requires other_name { retains.name ≡ V.name }
     requires other_parts { retains.parts ≡ V.parts }
     requires other_whole { 0 < V.parts }
+    requires third_name { reads.name ≡ U.name }
+    requires third_parts { reads.parts ≡ U.parts }
+    requires third_whole { 0 < U.parts }
     ensures ends { Ends result (around M.mixed settings None) store.old store.new (S.left source.old) (S.left source.new) (K.written sink.old) (K.written sink.new) }
     ensures sound { IsSound M.mixed store.new }
     ensures accepted { result ≢ Status.BadWords }
@@ -204,6 +223,7 @@ fn run_script<M: Mix, S: Source, K: Sink, W: Ledger, V: Ledger>(
     let mut counts = Counts {
         interns: Steps::<W>::new(interns),
         retains: Steps::<V>::new(retains),
+        reads: Steps::<U>::new(reads),
     };
     let mut out = Out::new(sink);
     carry_out(
@@ -231,7 +251,7 @@ pub fn run<M: Mix, S: Source, K: Sink>(
     sink: &mut K,
 ) -> Status
     requires settled { IsSettled store.old }
-    ensures ends { Ends result (around M.mixed (record { sorted = false; most_bytes = MAX_BYTES }) None) store.old store.new (S.left source.old) (S.left source.new) (K.written sink.old) (K.written sink.new) }
+    ensures ends { Ends result (around M.mixed (record { most_bytes = MAX_BYTES }) None) store.old store.new (S.left source.old) (S.left source.new) (K.written sink.old) (K.written sink.new) }
     ensures settled { IsSettled store.new }
     ensures stands { Stands M.mixed store.new }
     ensures words { (result ≡ Status.BadWords) ↔ (0 < length words.now) }
@@ -247,12 +267,12 @@ pub fn run<M: Mix, S: Source, K: Sink>(
     }
     let interns = Blank::new(1);
     let retains = Blank::new(1);
+    let reads = Blank::new(1);
     let settings = Settings {
-        sorted: false,
         most_bytes: MAX_BYTES,
     };
-    let status = run_script::<M, S, K, Brand, Brand>(
-        alloc, settings, store, source, sink, interns, retains,
+    let status = run_script::<M, S, K, Brand, Brand, Brand>(
+        alloc, settings, store, source, sink, interns, retains, reads,
     );
     store.triples();
     status

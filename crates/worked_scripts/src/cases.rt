@@ -160,6 +160,125 @@ fn a_dump_is_an_insert(rt: HostRuntime) -> Result<(), Fail> {
 }
 
 #[test]
+fn queries_have_their_answers(rt: HostRuntime) -> Result<(), Fail> {
+    let cases = [
+        (
+            "one column",
+            TWO,
+            "SELECT ?s { ?s ?p ?o }",
+            "?s\n<x:a>\n<x:a>\nok rows 2\n",
+        ),
+        (
+            "each row once",
+            TWO,
+            "SELECT DISTINCT ?s { ?s ?p ?o }",
+            "?s\n<x:a>\nok rows 1\n",
+        ),
+        (
+            "no row of none",
+            TWO,
+            "SELECT ?s { ?s ?p ?o } LIMIT 0",
+            "?s\nok rows 0\n",
+        ),
+        (
+            "past the last row",
+            TWO,
+            "SELECT ?s { ?s ?p ?o } OFFSET 5",
+            "?s\nok rows 0\n",
+        ),
+        (
+            "a blank node of the query",
+            TWO,
+            "SELECT ?s { ?s <x:p> _:o }",
+            "?s\n<x:a>\n<x:a>\nok rows 2\n",
+        ),
+        (
+            "one variable at three places",
+            "INSERT\n<x:a> <x:a> <x:a> .\n<x:a> <x:p> <x:a> .\n<x:a> <x:p> <x:b> .\nGO\n",
+            "SELECT ?x { ?x ?x ?x }",
+            "?x\n<x:a>\nok rows 1\n",
+        ),
+        ("no pattern", "", "SELECT * { }", "\n\nok rows 1\n"),
+        (
+            "a column without a label",
+            TWO,
+            "SELECT ?z { ?s ?p ?o }",
+            "?z\n\n\nok rows 2\n",
+        ),
+        (
+            "a constant that isn't there",
+            TWO,
+            "SELECT ?o { <x:none> ?p ?o }",
+            "?o\nok rows 0\n",
+        ),
+        (
+            "a literal as subject",
+            TWO,
+            "SELECT ?p { \"a\" ?p ?o }",
+            "?p\nok rows 0\n",
+        ),
+        (
+            "two columns and a tab in a string",
+            "INSERT\n<x:a> <x:p> \"t\\t\\n\"@EN .\nGO\n",
+            "SELECT ?s ?o {\n  ?s ?p ?o\n}",
+            "?s\t?o\n<x:a>\t\"t\\t\\n\"@en\nok rows 1\n",
+        ),
+        (
+            "no prefix",
+            "",
+            "SELECT * { ?s ex:p ?o }",
+            "refused 7 prefix\n",
+        ),
+        (
+            "a relative IRI",
+            "",
+            "SELECT * { ?s <p> ?o }",
+            "refused 2 query\n",
+        ),
+        (
+            "a number that is too large",
+            "",
+            "SELECT * { } LIMIT 18446744073709551616",
+            "refused 8 size\n",
+        ),
+    ];
+    for (name, before, query, want) in cases {
+        let alloc = rt.alloc();
+        let mut script = before.as_bytes().to_vec(alloc)?;
+        script.extend_from_slice(b"QUERY\n")?;
+        script.extend_from_slice(query.as_bytes())?;
+        script.extend_from_slice(b"\nGO\n")?;
+        for piece in [1usize, 7, 8192] {
+            let got = run_in_pieces(alloc, script.as_slice(), piece, 0, 0)?;
+            assert!(rt;
+                got.written.as_slice().ends_with(want.as_bytes()),
+                "{name}, in pieces of {piece}"
+            );
+        }
+    }
+    Ok(())
+}
+
+#[test]
+fn long_queries(rt: HostRuntime) -> Result<(), Fail> {
+    let alloc = rt.alloc();
+    for (more, want) in [(0usize, "?s\nok rows 0\n"), (1, "refused 6 long\n")] {
+        let mut script = b"QUERY\nSELECT ?s { ?s ?p ?o }\n".to_vec(alloc)?;
+        script.resize(6 + 1_048_576 - 1 + more, b' ')?;
+        script.extend_from_slice(b"\nGO\n")?;
+        let got = run_in_pieces(alloc, script.as_slice(), 8192, 0, 0)?;
+        assert_eq!(rt; got.written.as_slice(), want.as_bytes(), "{more} more");
+    }
+    let unended = run_in_pieces(alloc, b"QUERY\nSELECT * { }\n".as_slice(), 8192, 0, 0)?;
+    assert_eq!(rt;
+        unended.written.as_slice(),
+        b"refused 10 unended\n".as_slice()
+    );
+    assert_eq!(rt; unended.status, Status::SomeRefused);
+    Ok(())
+}
+
+#[test]
 fn a_line_that_is_no_text_is_refused(rt: HostRuntime) -> Result<(), Fail> {
     let script = b"INSERT\n<x:a> <x:p> \"\xff\" .\nGO\n# \xff\n";
     let got = run_in_pieces(rt.alloc(), script.as_slice(), 7, 0, 0)?;

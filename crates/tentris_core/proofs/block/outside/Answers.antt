@@ -49,3 +49,8 @@ pub returns-in-Some-Delete : goal.returns-in-Some-Delete
 returns-in-Some-Delete g c = λ A sound.
     subst (λ o. MeetsLine A Outside (lent_line o) c.args.store.now c.args.store.now c.begin_delete.result None) (sym c.in-Some.is)
     (meets_begin A (Some c.in-Some.bytes.now) c.args.store.now (script.Triples script.Deletes) c.begin_delete.result c.if-skipped.ensures (ap (λ f. Some (form_meant f)) (sym c.in-Some-Delete.field-0-is) ∙ c.in-Some-Delete.ensures) (c.begin_delete.ensures c.args.store.now))
+
+pub returns-in-Some-Query : goal.returns-in-Some-Query
+returns-in-Some-Query g c = λ A sound.
+    subst (λ o. MeetsLine A Outside (lent_line o) c.args.store.now c.args.store.now (place.Asks c.new.result) None) (sym c.in-Some.is)
+    (meets_begin A (Some c.in-Some.bytes.now) c.args.store.now script.Question (place.Asks c.new.result) c.if-skipped.ensures (ap (λ f. Some (form_meant f)) (sym c.in-Some-Query.field-0-is) ∙ c.in-Some-Query.ensures) (refl, c.new.ensures))

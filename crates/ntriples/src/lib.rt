@@ -14,7 +14,6 @@ ghost use Rattle.ntriples.specs.Fault.{IsFault};
 
 use crate::grammar::{after_blanks, is_note, triple};
 use rdf_term::Scratch;
-
 pub use rdf_term::TripleRef;
 
 /// Why a line was refused.

@@ -27,7 +27,9 @@ impl TermPlace {
         match self {
             TermPlace::Iri(text) => TermRef::Iri(texts.text(text)),
             TermPlace::Blank(label) => TermRef::Blank(texts.text(label)),
-            TermPlace::Plain(form) => { TermRef::Literal(texts.text(form), KindRef::Typed(XSD_STRING)) }
+            TermPlace::Plain(form) => {
+                TermRef::Literal(texts.text(form), KindRef::Typed(XSD_STRING))
+            }
             TermPlace::Typed(form, datatype) => {
                 TermRef::Literal(texts.text(form), KindRef::Typed(texts.text(datatype)))
             }

@@ -1,4 +1,4 @@
-use Rattle.std.proofs.Common.{[], ◌∷◌, is_some, refl, ap, ℕ, List}
+use Rattle.std.proofs.Common.{◌∷◌, is_some, refl, ap, ℕ, List}
 use Rattle.rdf_model.specs.Terms.{Text}
 use Rattle.rdf_term.specs.Seen.{lent_term}
 use Rattle.trie_node.specs.Sets.{edge_set}

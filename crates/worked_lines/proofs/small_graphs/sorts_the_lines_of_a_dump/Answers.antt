@@ -1,5 +1,5 @@
-use Rattle.graph_lines.proofs.TriedLemmas.{three_once, alone_once}
-use Rattle.graph_lines.proofs.tests.sorts_the_lines_of_a_dump.Goals as goal
+use Rattle.worked_lines.proofs.TriedLemmas.{three_once, alone_once}
+use Rattle.worked_lines.proofs.small_graphs.sorts_the_lines_of_a_dump.Goals as goal
 
 pub lines_of-requires-clause-once : goal.lines_of-requires-clause-once
 lines_of-requires-clause-once g c = three_once

@@ -1,7 +1,7 @@
 ghost use Rattle.std.specs.Prelude.{◌≡◌, ◌≤◌, length};
 ghost use Rattle.trie_depth.specs.Masks.{FitsDepth};
 
-use super::*;
+use slice_cases::{fix_entry, order};
 use trie_depth::{Id, Mask};
 
 /// Whether these positions are taken and left.

@@ -8,9 +8,9 @@ ghost use Rattle.trie_context.specs.Rows.{no_tables};
 ghost use Rattle.trie_context.specs.Roots.{IsHeld};
 ghost use Rattle.trie_update.specs.Batches.{set_of_entries, IsOnce};
 ghost use Rattle.graph_image.specs.Images.{AreKnown};
-ghost use Rattle.graph_lines.specs.Tried.{is_below_four};
+ghost use Rattle.worked_lines.specs.Tried.{is_below_four};
 
-use super::*;
+use graph_lines::{dump, shape_lines};
 use graph_view::{GraphView, TablesView};
 use rdf_term::TermRef;
 use std::alloc::Global;

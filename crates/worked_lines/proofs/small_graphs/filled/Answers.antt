@@ -7,8 +7,8 @@ use Rattle.trie_context.specs.Shape.{HasShape}
 use Rattle.trie_update.specs.Batches.{set_of_entries}
 use Rattle.trie_view.specs.RootLaws.{held_root_there}
 use Rattle.graph_image.specs.Images.{AreKnown}
-use Rattle.graph_lines.proofs.TriedLemmas.{counts_none, nothing_held, all_new, union_none}
-use Rattle.graph_lines.proofs.tests.filled.Goals as goal
+use Rattle.worked_lines.proofs.TriedLemmas.{counts_none, nothing_held, all_new, union_none}
+use Rattle.worked_lines.proofs.small_graphs.filled.Goals as goal
 
 pub grow-requires-clause-new : goal.grow-requires-clause-new
 grow-requires-clause-new g c = all_new c.args.context.now c.requires.tables c.args.root.now c.requires.root (set_of_entries trip_tuple c.args.triples.now)

@@ -1,4 +1,5 @@
-use super::*;
+use hash_index::HashIndex;
+use trie_depth::Memory;
 
 #[test]
 fn numbers_under_two_hashes(rt: HostRuntime) -> Result<(), Memory> {

@@ -1,5 +1,5 @@
-use Rattle.graph_lines.proofs.TriedLemmas.{entries_known}
-use Rattle.graph_lines.proofs.tests.lines_of.Goals as goal
+use Rattle.worked_lines.proofs.TriedLemmas.{entries_known}
+use Rattle.worked_lines.proofs.small_graphs.lines_of.Goals as goal
 
 pub counted-requires-clause-known : goal.counted-requires-clause-known
 counted-requires-clause-known c =

@@ -1,5 +1,5 @@
-use super::*;
 use rdf_term::{KindRef, TermRef, XSD_STRING};
+use term_dict::Dict;
 use trie_depth::{Id, Memory};
 
 /// `intern`, where there is an Id left.

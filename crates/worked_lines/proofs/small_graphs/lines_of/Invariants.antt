@@ -1,4 +1,4 @@
-use Rattle.graph_lines.proofs.tests.lines_of.Given as goal
+use Rattle.worked_lines.proofs.small_graphs.lines_of.Given as goal
 
 abbrev pub ghosts-counted-W-Ledger : goal.ghosts-counted-W-Ledger
 ghosts-counted-W-Ledger a = record { name = a.blank.name; parts = a.blank.parts }

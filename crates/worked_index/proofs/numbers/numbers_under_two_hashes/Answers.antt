@@ -2,7 +2,7 @@ use Rattle.std.proofs.Common.{◌≡◌, ℕ, None, ◌∙◌, ap, arith}
 use Rattle.std.specs.Ordering.{nat_cmp}
 use Rattle.std.specs.FinMap as map
 use Rattle.hash_index.proofs.Lists.{get-added, get-added_other}
-use Rattle.hash_index.proofs.tests.numbers_under_two_hashes.Goals as goal
+use Rattle.worked_index.proofs.numbers.numbers_under_two_hashes.Goals as goal
 
 none : (m : map.FinMap nat_cmp ℕ) → m ≡ map.empty → (q : ℕ) → map.get m q ≡ None
 none m is q = ap (λ n. map.get n q) is ∙ map.get-empty nat_cmp q

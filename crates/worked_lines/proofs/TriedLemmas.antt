@@ -29,7 +29,7 @@ use Rattle.trie_update.specs.Batches.{set_of_entries, IsOnce}
 use Rattle.trie_update.specs.BatchLaws.{order_once}
 use Rattle.term_dict.specs.Dict.{Terms}
 use Rattle.graph_image.specs.Images.{IsKnown, AreKnown}
-use Rattle.graph_lines.specs.Tried.{is_below_four}
+use Rattle.worked_lines.specs.Tried.{is_below_four}
 
 -- ---- an empty graph
 

@@ -1,7 +1,7 @@
 use Rattle.std.proofs.Common.{◌+◌, sym, subst, arith}
 use Rattle.edge_map.specs.Entries.{KeysRise}
 use Rattle.edge_map.proofs.ChunkLemmas.{Below, rise_push, below_push}
-use Rattle.edge_map.proofs.tests.in_a_row.Goals as goal
+use Rattle.worked_maps.proofs.maps.in_a_row.Goals as goal
 
 pub loop-key-preserved : goal.loop-key-preserved
 loop-key-preserved c =

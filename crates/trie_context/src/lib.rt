@@ -15,8 +15,6 @@ mod release;
 mod retain;
 mod root;
 mod tables;
-#[cfg(test)]
-mod tests;
 
 pub use context::Context;
 pub use held::Held;

@@ -5,3 +5,5 @@ pub mod WalkLemmas
 pub mod ReleaseLemmas
 pub mod RetainLemmas
 pub mod InternLemmas
+pub mod OpenLemmas
+pub mod KeepLemmas

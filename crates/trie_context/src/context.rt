@@ -104,7 +104,7 @@ impl<M: Mix> Context<M> {
         requires form { IsNode M.mixed L.DEPTH (set_of self.old (L.DEPTH - 1)) node }
         requires held { (r : ℕ) → edges_of node r ≤ holds_of self.old (L.DEPTH - 1) r }
         requires room { HasRoom self.old }
-        ensures interned { IfOk result (λ k. IsInterned M.mixed self.old self.new L.DEPTH node (kept_row k) (came_back k)) }
+        ensures kept { IfOk result (λ k. IsInterned M.mixed self.old self.new L.DEPTH node (kept_row k) (came_back k)) }
         ensures back { IfErr result (λ e. e.0 ≡ node) }
         ensures same { OnErr result (self.new ≡ self.old) }
         ensures ticks { interns.new ≡ interns.old + 1 }
@@ -245,7 +245,7 @@ impl<M: Mix> Context<M> {
     pub fn find<L: Level>(&self, node: &Node) -> Option<usize>
         requires form { IsNode M.mixed L.DEPTH (set_of self.now (L.DEPTH - 1)) node.now }
         ensures there { IfSome result (λ r. node_of self.now L.DEPTH r ≡ Some node.now) }
-        ensures none { IsNone result → (r : ℕ) → IsSome (row_of self.now L.DEPTH r) → set_of self.now L.DEPTH r ≢ node_set L.DEPTH (set_of self.now (L.DEPTH - 1)) node.now }
+        ensures none { IsNone result → StandsForNoRow self.now L.DEPTH node.now }
     {
         self.tables.find_equal(L::DEPTH, node, node.hash_of::<M>())
     }

@@ -14,9 +14,11 @@ mod store;
 mod taken;
 mod terms;
 mod trips;
+mod watch;
 
 pub use graph_listing::{Listing, whole_listings};
 pub use report::Stats;
 pub use staged::{StageFault, Staged};
 pub use store::{Changed, Store};
 pub use taken::Taken;
+pub use watch::{KeepDumps, NoWatch, Watch};

@@ -1,5 +1,5 @@
 use Rattle.script_read.proofs.BlankLemmas.{ends_at, blank_to_end}
-use Rattle.script_read.proofs.reading.end_before_blanks.Goals as goal
+use Rattle.script_read.proofs.blanks.end_before_blanks.Goals as goal
 
 pub returns-in-Some-clause-rest : goal.returns-in-Some-clause-rest
 returns-in-Some-clause-rest c = ends_at c.args.line.now c.in-Some.place c.in-Some.ensures.0 c.in-Some.ensures.1

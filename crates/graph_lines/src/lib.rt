@@ -7,8 +7,7 @@ mod members;
 mod row_lines;
 mod shape;
 mod sorted;
-#[cfg(test)]
-mod tests;
+mod style;
 mod triple_lines;
 
 pub use dumping::dump;

@@ -2,14 +2,14 @@
 use Rattle.std.proofs.Common.{◌≡◌, ◌∙◌, ◌↔◌, ℕ, ◌+◌, ◌<◌, Bool, true, false, cond, nat_lt, List, [], ◌∷◌, ◌++◌, length, refl, sym, ap, subst, arith, append_assoc, append-nil, length-append}
 use Rattle.std.proofs.lemmas.Bool.Decides.{nat_tests}
 use Rattle.std.proofs.lemmas.Grind.{flat_map-append}
-use Rattle.std.specs.Prelude.{Option, Some, None, if◌then◌else◌}
+use Rattle.std.specs.Prelude.{Option, Some, None}
 use Rattle.std.specs.Option.{option_or}
 use Rattle.std.specs.FinSet as set
 use Rattle.rdf_model.specs.Terms.{Triple}
 use Rattle.rdf_model.specs.Graph.{Graph, with_all}
 use Rattle.script_model.specs.Commands.{Change, Inserts, Deletes}
 use Rattle.run_model.specs.Answers.{Refusal, BadLine, FullAt}
-use Rattle.run_model.specs.Sayings.{Saying, triples_said, triples_of, IsOver, IsRefused, bad, full, AreGood, IsFirstRefused, is_over, refusal_at, refusal_from, first_refusal, FirstRefusalIsByPlace}
+use Rattle.run_model.specs.Sayings.{Saying, triples_said, triples_of, IsOver, IsRefused, bad, full, IsFirstRefused, is_over, refusal_at, refusal_from, first_refusal, FirstRefusalIsByPlace}
 
 pub triples_of-push : (said : List Saying) (s : Saying) → triples_of (said ++ s ∷ []) ≡ triples_of said ++ triples_said s
 triples_of-push said s = flat_map-append triples_said said (s ∷ []) ∙ ap (λ z. triples_of said ++ z) (append-nil (triples_said s))

@@ -4,11 +4,11 @@ use Rattle.std.specs.List.{flat_map}
 use Rattle.std.specs.Option.{option_or}
 use Rattle.std.specs.FinSet as set
 use Rattle.rdf_model.specs.Terms.{Text, Triple}
-use Rattle.rdf_model.specs.Graph.{Graph, with_all}
+use Rattle.rdf_model.specs.Graph.{Graph, with_all, without_all, added, gone}
 use Rattle.text_lines.specs.Lines.{Line}
 use Rattle.ntriples_model.specs.Line.{said}
 use Rattle.script_model.specs.Commands.{Change, Inserts, Deletes}
-use Rattle.run_model.specs.Answers.{Refusal, BadLine, FullAt}
+use Rattle.run_model.specs.Answers.{Refusal, BadLine, FullAt, New, Gone, Answer, Done}
 
 -- What a line says: none where it is no line of N-Triples, else a triple or nothing.
 abbrev pub Saying : Type 0
@@ -30,6 +30,11 @@ triples_said (Some (Some triple)) = triple ∷ []
 -- the triples that are said, in order
 abbrev pub triples_of : List Saying → List Triple
 triples_of = flat_map triples_said
+
+-- what lines that can be carried out change in a graph G, and the answer
+abbrev pub Changes : Change → Graph → List Saying → Graph → Answer → Type 0
+Changes Inserts G said H a = let B = triples_of said in (H ≡ with_all G B) × (a ≡ Done (New (added G B) (set.len H)))
+Changes Deletes G said H a = let B = triples_of said in (H ≡ without_all G B) × (a ≡ Done (Gone (gone G B) (set.len H)))
 
 -- By places
 

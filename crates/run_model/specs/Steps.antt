@@ -1,49 +1,59 @@
 -- What one command may do and answer, and a run of commands (docs/SCRIPT.md).
-use Rattle.std.specs.Prelude.{◌≡◌, ◌≢◌, ◌⊎◌, ℕ, Bool, List, [], ◌∷◌, Option, Some, None, map}
+use Rattle.std.specs.Prelude.{◌≡◌, ◌≢◌, ℕ, Bool, List, [], ◌∷◌, Option, Some, None, map}
 use Rattle.std.specs.List.{flat_map, list_any}
-use Rattle.std.specs.FinSet as set
 use Rattle.rdf_model.specs.Terms.{Text}
 use Rattle.rdf_model.specs.Dumps.{dump_lines}
-use Rattle.rdf_model.specs.Graph.{Graph, with_all, without_all, added, gone}
+use Rattle.rdf_model.specs.Graph.{Graph}
 use Rattle.graph_shape.specs.GraphShapes.{figures_of, shape_lines}
-use Rattle.script_model.specs.Commands.{Change, Inserts, Deletes, Triples, Question, OneLine, Dump, Stats, Shape, Command, Block, Single, Bad, Unended, question_of}
-use Rattle.run_model.specs.Answers.{Refusal, NoCommand, NoMemory, EndInBlock, New, Gone, Answer, Done, Dumped, Counted, Shaped, Refused, answer_text, is_refused}
-use Rattle.run_model.specs.Sayings.{Saying, sayings, triples_of, first_refusal}
+use Rattle.script_model.specs.Commands.{Change, Inserts, Triples, Question, OneLine, File, Generate, Dump, Stats, Shape, Command, Block, Single, Bad, Unended, question_of}
+use Rattle.run_model.specs.Answers.{Refusal, NoCommand, NoFile, NoMemory, EndInBlock, Answer, Dumped, Counted, Shaped, Refused, answer_text, is_refused}
+use Rattle.run_model.specs.Sayings.{sayings, first_refusal, Changes}
+use Rattle.run_model.specs.Loads.{generated_sayings, LoadsFile, RefusesFile, FailsAt}
 use Rattle.run_model.specs.Questions.{question_refusal, AnswersQuestion}
 use Rattle.run_model.specs.Worlds.{Config, World, FailedRead}
 
--- the refusal of a command, or none; want of memory and failed reads aside
+-- the refusal of a line that commands something, or none
+abbrev pub line_refusal : Config → World → OneLine → Option Refusal
+line_refusal cfg W (File change scope name) = None
+line_refusal cfg W (Generate count salt) = first_refusal Inserts cfg.most_triples W.graph (generated_sayings count salt)
+line_refusal cfg W Dump = None
+line_refusal cfg W Stats = None
+line_refusal cfg W Shape = None
+
+-- the refusal of a command by its lines, or none; want of memory, and what a read of a file gives, aside
 abbrev pub refusal_of : Config → World → Command → Option Refusal
 refusal_of cfg W (Block (Triples change) lines) = first_refusal change cfg.most_triples W.graph (sayings [] lines)
 refusal_of cfg W (Block Question lines) = question_refusal (question_of lines)
-refusal_of cfg W (Single command) = None
+refusal_of cfg W (Single command) = line_refusal cfg W command
 refusal_of cfg W Bad = Some NoCommand
 refusal_of cfg W Unended = Some EndInBlock
 
--- what lines that can be carried out change in a graph G, and the answer
-abbrev pub Changes : Change → Graph → List Saying → Graph → Answer → Type 0
-Changes Inserts G said H a = let B = triples_of said in (H ≡ with_all G B) × (a ≡ Done (New (added G B) (set.len H)))
-Changes Deletes G said H a = let B = triples_of said in (H ≡ without_all G B) × (a ≡ Done (Gone (gone G B) (set.len H)))
-
--- what a line that commands something answers over a graph
-abbrev pub Answers : Graph → OneLine → Answer → Type 0
-Answers G Dump a = a ≡ Dumped (dump_lines G)
-Answers G Stats a = a ≡ Counted (figures_of G)
-Answers G Shape a = a ≡ Shaped (shape_lines G)
+-- what a line that commands something does to a graph, and what it answers
+abbrev pub LineDoes : Config → World → OneLine → Graph → Answer → Type 0
+LineDoes cfg W (File change scope name) H a = LoadsFile cfg W change scope name H a
+LineDoes cfg W (Generate count salt) H a = Changes Inserts W.graph (generated_sayings count salt) H a
+LineDoes cfg W Dump H a = (H ≡ W.graph) × (a ≡ Dumped (dump_lines W.graph))
+LineDoes cfg W Stats H a = (H ≡ W.graph) × (a ≡ Counted (figures_of W.graph))
+LineDoes cfg W Shape H a = (H ≡ W.graph) × (a ≡ Shaped (shape_lines W.graph))
 
 -- what a command that isn't refused does to a graph, and what it answers
 abbrev pub Does : Config → World → Command → Graph → Answer → Type 0
 Does cfg W (Block (Triples change) lines) H a = Changes change W.graph (sayings [] lines) H a
 Does cfg W (Block Question lines) H a = (H ≡ W.graph) × AnswersQuestion cfg.sorted W.graph (question_of lines) a
-Does cfg W (Single command) H a = (H ≡ W.graph) × Answers W.graph command a
+Does cfg W (Single command) H a = LineDoes cfg W command H a
 Does cfg W Bad H a = ⊥
 Does cfg W Unended H a = ⊥
 
 -- One command, from the world W to V, with an answer, and with the read that failed, if one did. A refused command changes nothing, and
--- no command changes a file. Want of memory may refuse each command but a block without end.
+-- no command changes a file. A file is refused by its bytes, or because a read of it failed before a place of a refusal. Want of memory
+-- may refuse each command but a block without end.
 pub data Step (cfg : Config) (W : World) : Command → World → Answer → Option FailedRead → Type 0 where
   done : (c : Command) (H : Graph) (a : Answer) → refusal_of cfg W c ≡ None → Does cfg W c H a → Step cfg W c (record W { graph = H }) a None
   refused : (c : Command) (r : Refusal) → refusal_of cfg W c ≡ Some r → Step cfg W c W (Refused r) None
+  file_refused : (change : Change) (scope name : Text) (r : Refusal) → RefusesFile cfg W change scope name r
+      → Step cfg W (Single (File change scope name)) W (Refused r) None
+  file_failed : (change : Change) (scope name : Text) (place : ℕ) → FailsAt cfg W change scope name place
+      → Step cfg W (Single (File change scope name)) W (Refused NoFile) (Some (record { name = name; place = place }))
   no_memory : (c : Command) → c ≢ Unended → Step cfg W c W (Refused NoMemory) None
 
 -- one command of a run: what it answered, which read of it failed, and the world that it left

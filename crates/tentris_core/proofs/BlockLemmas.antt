@@ -17,24 +17,26 @@ use Rattle.graph_store.specs.State.{State, graph, IsSettled, most_triples}
 use Rattle.graph_store.specs.Staging.{nothing_staged, AreMarked}
 use Rattle.graph_store.specs.StagingLaws.{fits_nothing, before_nothing, marked_nothing}
 use Rattle.answer_text.specs.declared.Refusal.{Refusal}
-use Rattle.tentris_core.specs.declared.answer.Answer.{Answer}
-use Rattle.tentris_core.specs.declared.batch.Batch.{Batch}
-use Rattle.tentris_core.specs.declared.batch.Batch.TheVariants.{Inserts, Deletes, Refused}
+use Rattle.line_batch.specs.declared.answer.Answer.{Answer}
+use Rattle.line_batch.specs.declared.batch.Batch.{Batch}
+use Rattle.line_batch.specs.declared.batch.Batch.TheVariants.{Inserts, Deletes, Refused}
 use Rattle.tentris_core.specs.declared.block.Block.{Block}
 use Rattle.tentris_core.specs.declared.block.Place.{Place}
 use Rattle.tentris_core.specs.declared.block.Place.TheVariants as place
 use Rattle.tentris_core.specs.declared.outcome.Outcome.{Outcome}
 use Rattle.tentris_core.specs.declared.outcome.Outcome.TheVariants.{GoesOn, Answered, Cut}
-use Rattle.tentris_core.specs.Seen.{answer_of, Tells}
+use Rattle.line_batch.specs.Seen.{answer_of}
+use Rattle.tentris_core.specs.Seen.{Tells}
 use Rattle.tentris_core.specs.Puts.{WritesAnswer}
 use Rattle.tentris_core.specs.Questions.{AnswersQuestion}
 use Rattle.tentris_core.specs.declared.question.Question.{Question}
-use Rattle.tentris_core.specs.Batches as changed
-use Rattle.tentris_core.specs.Batches.{IsBatch, IsReady, IsCause, AreStaged, AreToGo, ChangesBy, ChangesStore}
-use Rattle.tentris_core.specs.Carrying.{Around, config_in, world_in, IsSound, Carries}
+use Rattle.line_batch.specs.Batches as changed
+use Rattle.line_batch.specs.Batches.{IsBatch, IsReady, IsCause, AreStaged, AreToGo, ChangesBy, ChangesStore}
+use Rattle.line_batch.specs.Sound.{IsSound}
+use Rattle.tentris_core.specs.Carrying.{Around, config_in, world_in, Carries}
 use Rattle.tentris_core.specs.Places.{Position, Outside, Inside, IsBlock, IsAt, EndsCommand, LeadsTo, LeadsOn, MeetsLine, TakesLine}
-use Rattle.tentris_core.proofs.GraphLemmas.{lacked-none, had-none}
-use Rattle.tentris_core.proofs.BatchLemmas.{cause_stays}
+use Rattle.line_batch.proofs.GraphLemmas.{lacked-none, had-none}
+use Rattle.line_batch.proofs.BatchLemmas.{cause_stays}
 
 -- ---- batches
 

@@ -24,7 +24,8 @@ use Rattle.answer_text.specs.Seen.{refusal_of}
 use Rattle.tentris_core.specs.declared.question.Question.TheVariants.{Text, Refused}
 use Rattle.tentris_core.specs.declared.outcome.Outcome.{Outcome}
 use Rattle.tentris_core.specs.Puts.{WritesAnswer}
-use Rattle.tentris_core.specs.Carrying.{Around, IsSound, Carries}
+use Rattle.line_batch.specs.Sound.{IsSound}
+use Rattle.tentris_core.specs.Carrying.{Around, Carries}
 use Rattle.tentris_core.specs.Questions.{IsGathered, IsFault, AnswersQuestion}
 use Rattle.std.proofs.Common.{◌≡◌, ◌∙◌, ℕ, ◌+◌, ◌<◌, ◌≤◌, not, ◌&&◌, ◌||◌, ◌==◌, Bool, true, false, cond, List, [], ◌∷◌, ◌++◌, length, refl, sym, ap, subst, arith, append_assoc, length-append}
 use Rattle.std.specs.Prelude.{Option, Some, None, nat_le, if◌then◌else◌}

@@ -22,7 +22,8 @@ use Rattle.tentris_core.specs.declared.block.Place.{Place}
 use Rattle.tentris_core.specs.declared.block.Place.TheVariants as place
 use Rattle.tentris_core.specs.declared.outcome.Outcome.{Outcome}
 use Rattle.tentris_core.specs.declared.outcome.Outcome.TheVariants.{GoesOn, Answered, Cut as CutOff}
-use Rattle.tentris_core.specs.Carrying.{Around, StoreEvent, events_in, IsSound, Carries, CarriesAll}
+use Rattle.line_batch.specs.Sound.{IsSound}
+use Rattle.tentris_core.specs.Carrying.{Around, StoreEvent, events_in, Carries, CarriesAll}
 use Rattle.tentris_core.specs.Places.{Position, Outside, Inside, IsAt, IsReadyAt, EndsCommand, TakesLine, commands_from, lines_had, lines_in}
 use Rattle.tentris_core.specs.Puts.{IsPart}
 use Rattle.tentris_core.specs.declared.running.Status.{Status}

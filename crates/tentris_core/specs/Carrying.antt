@@ -6,8 +6,8 @@ use Rattle.script_model.specs.Commands.{Command}
 use Rattle.run_model.specs.Answers.{Answer, is_refused}
 use Rattle.run_model.specs.Worlds.{Config, World, FailedRead}
 use Rattle.run_model.specs.Steps.{Step, Event, Run}
-use Rattle.graph_store.specs.State.{State, graph, IsSettled}
-use Rattle.graph_store.specs.Stands.{Stands}
+use Rattle.graph_store.specs.State.{State, graph}
+use Rattle.line_batch.specs.Sound.{IsSound}
 use Rattle.tentris_core.specs.declared.settings.Settings.{Settings}
 
 -- Beside the store: the mix by which its tables hash, whether rows are sorted, how many bytes the script and each file may have, and the
@@ -27,11 +27,6 @@ config_in A s = record { sorted = A.sorted; most_triples = s.max; most_bytes = A
 
 abbrev pub world_in : Around → State → World
 world_in A s = record { graph = graph s; files = A.files }
-
--- the dictionary has exactly the graph's terms, and the tables are kept and have exactly the rows of the graph's shape
-pub record IsSound (mixed : ℕ → ℕ → ℕ → ℕ → ℕ) (s : State) : Type 0 where
-  pub settled : IsSettled s
-  pub stands : Stands mixed s
 
 -- a command took the store from s to t
 pub record Carries (A : Around) (s : State) (c : Command) (t : State) (a : Answer) (failed : Option FailedRead) : Type 0 where

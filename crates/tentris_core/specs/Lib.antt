@@ -1,7 +1,6 @@
 pub mod Puts
 pub mod Seen
 pub mod Carrying
-pub mod Batches
 pub mod Questions
 pub mod Places
 pub mod Runs

@@ -7,17 +7,18 @@ use Rattle.run_model.specs.Answers as model
 use Rattle.run_model.specs.Sayings.{sayings}
 use Rattle.run_model.specs.Worlds.{FailedRead}
 use Rattle.graph_store.specs.State.{State}
-use Rattle.tentris_core.specs.declared.answer.Answer.{Answer}
+use Rattle.line_batch.specs.declared.answer.Answer.{Answer}
 use Rattle.tentris_core.specs.declared.outcome.Outcome.{Outcome}
 use Rattle.tentris_core.specs.declared.outcome.Outcome.TheVariants.{GoesOn, Answered, Cut}
 use Rattle.tentris_core.specs.declared.block.Block.{Block}
 use Rattle.tentris_core.specs.declared.block.Place.{Place}
 use Rattle.tentris_core.specs.declared.block.Place.TheVariants as place
-use Rattle.tentris_core.specs.Seen.{answer_of}
+use Rattle.line_batch.specs.Seen.{answer_of}
 use Rattle.tentris_core.specs.Puts.{WritesAnswer}
-use Rattle.tentris_core.specs.Batches.{IsBatch, IsReady}
+use Rattle.line_batch.specs.Batches.{IsBatch, IsReady}
 use Rattle.tentris_core.specs.Questions.{IsGathered}
-use Rattle.tentris_core.specs.Carrying.{Around, IsSound, Carries}
+use Rattle.line_batch.specs.Sound.{IsSound}
+use Rattle.tentris_core.specs.Carrying.{Around, Carries}
 
 -- outside a block, or in a block that has had some lines
 pub data Position : Type 0 where

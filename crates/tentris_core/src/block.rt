@@ -5,22 +5,21 @@ ghost use Rattle.std.specs.Prelude.{◌≡◌, ◌≤◌, ◌+◌, ◌<◌, ◌-
 ghost use Rattle.text_lines.specs.Lines.{Line};
 ghost use Rattle.script_model.specs.Commands as script;
 ghost use Rattle.graph_store.specs.State.{State, IsSettled};
-ghost use Rattle.tentris_core.specs.Seen.{answer_of};
-ghost use Rattle.tentris_core.specs.Batches.{lent_line, IsReady};
-ghost use Rattle.tentris_core.specs.Carrying.{Around, around, IsSound, Carries};
+ghost use Rattle.line_batch.specs.Seen.{answer_of};
+ghost use Rattle.line_batch.specs.Batches.{lent_line, IsReady};
+ghost use Rattle.line_batch.specs.Sound.{IsSound};
+ghost use Rattle.tentris_core.specs.Carrying.{Around, around, Carries};
 ghost use Rattle.tentris_core.specs.Places.{IsBlock, IsAt, IsReadyAt, MeetsLine, TakesLine, Position, Outside, Inside, lines_in};
 ghost use Rattle.tentris_core.specs.Puts.{IsPassedOn, HasOutcome};
 ghost use Rattle.tentris_core.specs.Seen.{Tells};
 ghost use Rattle.tentris_core.specs.Questions.{IsGathered};
 
-use crate::answer::Answer;
-use crate::batch::Batch;
-use crate::counts::Counts;
 use crate::outcome::{Outcome, pass_on};
 use crate::question::Question;
 use crate::settings::Settings;
 use answer_text::Refusal;
 use graph_store::{Staged, Store, Taken};
+use line_batch::{Answer, Batch, Counts};
 use rdf_term::Scratch;
 use script_read::{Command, command, skipped};
 use std::alloc::Global;

@@ -1,14 +1,10 @@
 //! Carries out a script over a graph, from the bytes that come in to the bytes that go out.
 #![tactic(auto)]
 
-mod answer;
-mod batch;
 mod block;
-mod counts;
 mod outcome;
 mod question;
 mod running;
 mod settings;
 
-pub use answer::Answer;
 pub use running::{MAX_BYTES, Status, run};

@@ -5,22 +5,22 @@
 ghost use Rattle.std.specs.Prelude.{◌≡◌, ◌≤◌, ◌<◌, [], length, IfSome, ◌↔◌, ◌≢◌, None};
 ghost use Rattle.tn_io.specs.Causes.{Rose};
 ghost use Rattle.tn_io.specs.CutterState.{line_told};
-ghost use Rattle.tentris_core.specs.Batches.{lent_line};
+ghost use Rattle.line_batch.specs.Batches.{lent_line};
 ghost use Rattle.tentris_core.specs.Places.{Position, IsAt, IsReadyAt};
-ghost use Rattle.tentris_core.specs.Carrying.{IsSound, around};
+ghost use Rattle.line_batch.specs.Sound.{IsSound};
+ghost use Rattle.tentris_core.specs.Carrying.{around};
 ghost use Rattle.graph_store.specs.State.{State, IsSettled};
 ghost use Rattle.graph_store.specs.Stands.{Stands};
 ghost use Rattle.tentris_core.specs.Runs.{Ends};
 ghost use Rattle.tentris_core.specs.Endings.{Finishes, EndsInBlock};
 ghost use Rattle.script_read.specs.ScriptState.{at_start};
 
-use crate::answer::Answer;
 use crate::block::{Block, Place, take_line};
-use crate::counts::Counts;
 use crate::outcome::{Outcome, pass_on};
 use crate::settings::Settings;
 use answer_text::Refusal;
 use graph_store::Store;
+use line_batch::{Answer, Counts};
 use rdf_term::Scratch;
 use script_read::{Script, ScriptFault};
 use std::alloc::Global;

@@ -1,6 +1,6 @@
 use Rattle.std.proofs.Common.{arith, ◌∷◌, [], ◌++◌, refl, length-append}
 use Rattle.script_model.specs.Commands.{Question}
-use Rattle.tentris_core.specs.Batches.{lent_line}
+use Rattle.line_batch.specs.Batches.{lent_line}
 use Rattle.tentris_core.specs.Places.{Outside, Inside}
 use Rattle.tentris_core.proofs.BlockLemmas.{goes_on, question_leads}
 use Rattle.tentris_core.proofs.block.asks.Goals as goal

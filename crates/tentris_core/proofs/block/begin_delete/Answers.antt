@@ -1,5 +1,5 @@
 use Rattle.std.proofs.Common.{[], refl, subst, sym}
-use Rattle.tentris_core.specs.Batches.{AreToGo}
+use Rattle.line_batch.specs.Batches.{AreToGo}
 use Rattle.tentris_core.proofs.BlockLemmas.{none_marked}
 use Rattle.tentris_core.proofs.block.begin_delete.Goals as goal
 

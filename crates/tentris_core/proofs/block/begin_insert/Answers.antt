@@ -1,6 +1,6 @@
 use Rattle.std.proofs.Common.{◌≤◌, [], refl, subst, sym}
 use Rattle.graph_store.specs.State.{most_triples}
-use Rattle.tentris_core.specs.Batches.{AreStaged}
+use Rattle.line_batch.specs.Batches.{AreStaged}
 use Rattle.tentris_core.proofs.BlockLemmas.{none_staged}
 use Rattle.tentris_core.proofs.block.begin_insert.Goals as goal
 

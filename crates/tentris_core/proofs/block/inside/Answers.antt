@@ -1,8 +1,8 @@
 use Rattle.std.proofs.Common.{arith, ◌∷◌, [], ◌++◌, refl, length-append}
 use Rattle.std.specs.Prelude.{None}
 use Rattle.script_model.specs.Commands as script
-use Rattle.tentris_core.specs.Seen.{answer_of}
-use Rattle.tentris_core.specs.Batches.{lent_line}
+use Rattle.line_batch.specs.Seen.{answer_of}
+use Rattle.line_batch.specs.Batches.{lent_line}
 use Rattle.tentris_core.specs.Places.{Outside, Inside}
 use Rattle.tentris_core.proofs.BlockLemmas.{ends_it, goes_on, block_step}
 use Rattle.tentris_core.proofs.block.inside.Goals as goal

@@ -1,8 +1,9 @@
 use Rattle.std.proofs.Common.{subst, sym, refl}
 use Rattle.std.specs.Prelude.{None}
 use Rattle.graph_store.specs.State.{State}
-use Rattle.tentris_core.specs.Batches.{lent_line}
-use Rattle.tentris_core.specs.Carrying.{around, IsSound}
+use Rattle.line_batch.specs.Batches.{lent_line}
+use Rattle.line_batch.specs.Sound.{IsSound}
+use Rattle.tentris_core.specs.Carrying.{around}
 use Rattle.tentris_core.specs.Places.{Position, Outside, Inside, IsAt, MeetsLine, TakesLine}
 use Rattle.script_model.specs.Commands.{Triples, Question}
 use Rattle.tentris_core.specs.declared.block.Place.TheVariants as place

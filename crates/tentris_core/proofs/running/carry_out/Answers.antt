@@ -1,7 +1,7 @@
 use Rattle.std.proofs.Common.{rules, arith, ◌∙◌, refl, sym, ap, subst}
 use Rattle.std.specs.Prelude.{Ok, Err}
 use Rattle.tentris_core.specs.Puts.{IsPassedOn}
-use Rattle.tentris_core.specs.Carrying.{IsSound}
+use Rattle.line_batch.specs.Sound.{IsSound}
 use Rattle.tentris_core.proofs.RunLemmas.{ready, run_starts, run_finishes, run_fails, run_too_long, run_line, run_answered, run_cut_off, next_at, takes_at, ends_in, taken_in, front_in, cut_in}
 use Rattle.tentris_core.proofs.running.carry_out.Goals as goal
 

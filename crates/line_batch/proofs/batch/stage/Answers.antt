@@ -6,8 +6,8 @@ use Rattle.ntriples_model.proofs.TermTexts.{texts_stand}
 use Rattle.ntriples_model.specs.ProperLaws.{proper_line}
 use Rattle.rdf_term.specs.Seen.{lent_triple, lent_triples}
 use Rattle.run_model.specs.Sayings.{says}
-use Rattle.tentris_core.proofs.BatchLemmas.{bad_line, note_full, note_staged, triple_full, triple_staged}
-use Rattle.tentris_core.proofs.batch.stage.Goals as goal
+use Rattle.line_batch.proofs.BatchLemmas.{bad_line, note_full, note_staged, triple_full, triple_staged}
+use Rattle.line_batch.proofs.batch.stage.Goals as goal
 
 pub stage-requires-clause-proper : goal.stage-requires-clause-proper
 stage-requires-clause-proper g c = proper_line texts_stand lines_are_productions [] tt c.args.line.now (lent_triple c.in-Ok-Some.triple) (c.in-Ok-Some.ensures.said ∙ ap (λ r. Some (lent_triples r)) c.in-Ok-Some.field-0-is)

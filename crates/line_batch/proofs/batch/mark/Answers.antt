@@ -3,8 +3,8 @@ use Rattle.std.specs.Prelude.{Some}
 use Rattle.script_model.specs.Commands as script
 use Rattle.rdf_term.specs.Seen.{lent_triple, lent_triples}
 use Rattle.run_model.specs.Sayings.{says}
-use Rattle.tentris_core.proofs.BatchLemmas.{bad_line, note_marked, triple_marked}
-use Rattle.tentris_core.proofs.batch.mark.Goals as goal
+use Rattle.line_batch.proofs.BatchLemmas.{bad_line, note_marked, triple_marked}
+use Rattle.line_batch.proofs.batch.mark.Goals as goal
 
 pub returns-in-Ok-None : goal.returns-in-Ok-None
 returns-in-Ok-None g c = record {

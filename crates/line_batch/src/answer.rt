@@ -2,7 +2,7 @@
 ghost use Rattle.std.specs.Prelude.{◌≡◌};
 ghost use Rattle.answer_text.specs.Puts.{Puts};
 ghost use Rattle.run_model.specs.Answers.{answer_text as text_of_answer, Dumped, Counted, Shaped};
-ghost use Rattle.tentris_core.specs.Seen.{figures_seen};
+ghost use Rattle.line_batch.specs.Seen.{figures_seen};
 
 use answer_text::{Figures, Refusal, Reply, ok, put_figures, put_lines, refused};
 use graph_store::{Changed, Stats};
@@ -20,7 +20,7 @@ pub enum Answer {
 }
 
 impl Answer {
-    ghost use Rattle.tentris_core.specs.Seen.{answer_of};
+    ghost use Rattle.line_batch.specs.Seen.{answer_of};
 
     /// Puts the whole text of an answer.
     pub fn put<K: Sink>(&self, out: &mut Out<'_, K>) -> Result<(), Failed>

@@ -6,7 +6,7 @@ use Rattle.rdf_model.specs.Terms.{Triple}
 use Rattle.rdf_model.specs.Graph.{Graph, triples_total}
 use Rattle.script_model.specs.Commands.{Inserts}
 use Rattle.run_model.specs.Sayings.{is_over}
-use Rattle.tentris_core.proofs.GraphLemmas.{lacked, lacked-push, len-with_all}
+use Rattle.line_batch.proofs.GraphLemmas.{lacked, lacked-push, len-with_all}
 
 more_than : (most n : ℕ) → most < n → nat_lt most n ≡ true
 more_than most n lt = grind (arith, nat_tests)

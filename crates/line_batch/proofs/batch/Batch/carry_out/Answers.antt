@@ -1,15 +1,15 @@
 use Rattle.std.proofs.Common.{List, subst}
-use Rattle.tentris_core.specs.Batches.{IsBatch}
-use Rattle.tentris_core.specs.declared.batch.Batch.TheVariants.{Refused}
+use Rattle.line_batch.specs.Batches.{IsBatch}
+use Rattle.line_batch.specs.declared.batch.Batch.TheVariants.{Refused}
 use Rattle.script_model.specs.Commands as script
 use Rattle.run_model.specs.Sayings.{Saying}
 use Rattle.graph_store.specs.State.{State}
-use Rattle.tentris_core.specs.Carrying.{IsSound}
-use Rattle.tentris_core.specs.Batches.{ChangesStore}
-use Rattle.tentris_core.specs.Seen.{answer_of}
-use Rattle.tentris_core.specs.declared.answer.Answer.TheVariants as answer
-use Rattle.tentris_core.proofs.BatchLemmas.{refused_batch}
-use Rattle.tentris_core.proofs.batch.Batch.carry_out.Goals as goal
+use Rattle.line_batch.specs.Sound.{IsSound}
+use Rattle.line_batch.specs.Batches.{ChangesStore}
+use Rattle.line_batch.specs.Seen.{answer_of}
+use Rattle.line_batch.specs.declared.answer.Answer.TheVariants as answer
+use Rattle.line_batch.proofs.BatchLemmas.{refused_batch}
+use Rattle.line_batch.proofs.batch.Batch.carry_out.Goals as goal
 
 pub returns-in-Refused : goal.returns-in-Refused
 returns-in-Refused g c = λ s change said sound h. by s change said sound (subst (IsBatch s change said c.args.store.now) c.in-Refused.is h) where

@@ -14,11 +14,11 @@ use Rattle.graph_store.specs.Staging.{Staging, staged_graph, Fits, before, IsFul
 use Rattle.answer_text.specs.declared.Refusal.{Refusal}
 use Rattle.answer_text.specs.declared.Refusal.TheVariants as cause
 use Rattle.answer_text.specs.Seen.{refusal_of}
-use Rattle.tentris_core.specs.Batches.{batch_refusal, IsCause, AreStaged, AreToGo, ChangesBy, done, refused, no_memory, ChangesStore}
-use Rattle.tentris_core.specs.Carrying.{IsSound}
-use Rattle.tentris_core.proofs.GraphLemmas.{lacked, had, lacked-push, had-push, union-lacked, difference-had}
-use Rattle.tentris_core.proofs.RefusalLemmas.{refusal-front, refusal-push}
-use Rattle.tentris_core.proofs.FullLemmas.{HasRoomFor, IsFullFor, over_alone, not_over_alone, full_over, not_full_over}
+use Rattle.line_batch.specs.Batches.{batch_refusal, IsCause, AreStaged, AreToGo, ChangesBy, done, refused, no_memory, ChangesStore}
+use Rattle.line_batch.specs.Sound.{IsSound}
+use Rattle.line_batch.proofs.GraphLemmas.{lacked, had, lacked-push, had-push, union-lacked, difference-had}
+use Rattle.line_batch.proofs.RefusalLemmas.{refusal-front, refusal-push}
+use Rattle.line_batch.proofs.FullLemmas.{HasRoomFor, IsFullFor, over_alone, not_over_alone, full_over, not_full_over}
 
 -- ---- why a line can't be carried out
 

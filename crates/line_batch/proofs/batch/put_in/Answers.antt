@@ -1,7 +1,7 @@
 use Rattle.std.proofs.Common.{◌∙◌}
 use Rattle.script_model.specs.Commands as script
-use Rattle.tentris_core.proofs.BatchLemmas.{inserted, lack_memory}
-use Rattle.tentris_core.proofs.batch.put_in.Goals as goal
+use Rattle.line_batch.proofs.BatchLemmas.{inserted, lack_memory}
+use Rattle.line_batch.proofs.batch.put_in.Goals as goal
 
 pub returns-in-Ok : goal.returns-in-Ok
 returns-in-Ok g c = λ s body sound h.

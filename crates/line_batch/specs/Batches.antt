@@ -14,9 +14,9 @@ use Rattle.graph_store.specs.State.{State, graph, IsSettled}
 use Rattle.graph_store.specs.Staging.{Staging, staged_graph, Fits, before, AreMarked, marked_graph}
 use Rattle.answer_text.specs.declared.Refusal.{Refusal}
 use Rattle.answer_text.specs.declared.Refusal.TheVariants as cause
-use Rattle.tentris_core.specs.Carrying.{IsSound}
-use Rattle.tentris_core.specs.declared.batch.Batch.{Batch}
-use Rattle.tentris_core.specs.declared.batch.Batch.TheVariants.{Inserts, Deletes, Refused}
+use Rattle.line_batch.specs.Sound.{IsSound}
+use Rattle.line_batch.specs.declared.batch.Batch.{Batch}
+use Rattle.line_batch.specs.declared.batch.Batch.TheVariants.{Inserts, Deletes, Refused}
 
 -- a line that was told: none where it is too long
 abbrev pub lent_line : Option (Bor (List ℕ)) → Line

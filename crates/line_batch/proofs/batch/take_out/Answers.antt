@@ -1,6 +1,6 @@
 use Rattle.script_model.specs.Commands as script
-use Rattle.tentris_core.proofs.BatchLemmas.{deleted, lack_memory}
-use Rattle.tentris_core.proofs.batch.take_out.Goals as goal
+use Rattle.line_batch.proofs.BatchLemmas.{deleted, lack_memory}
+use Rattle.line_batch.proofs.batch.take_out.Goals as goal
 
 pub returns-in-Ok : goal.returns-in-Ok
 returns-in-Ok g c = λ body sound h.

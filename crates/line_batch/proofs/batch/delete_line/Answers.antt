@@ -2,11 +2,11 @@ use Rattle.std.proofs.Common.{[], ◌∷◌, ◌++◌, sym, subst, refl}
 use Rattle.std.specs.Prelude.{None}
 use Rattle.script_model.specs.Commands as script
 use Rattle.answer_text.specs.declared.Refusal.TheVariants as cause
-use Rattle.tentris_core.specs.declared.batch.Batch.TheVariants.{Deletes, Refused}
-use Rattle.tentris_core.specs.Batches.{lent_line, IsBatch}
+use Rattle.line_batch.specs.declared.batch.Batch.TheVariants.{Deletes, Refused}
+use Rattle.line_batch.specs.Batches.{lent_line, IsBatch}
 use Rattle.run_model.specs.Sayings.{says}
-use Rattle.tentris_core.proofs.BatchLemmas.{bad_line}
-use Rattle.tentris_core.proofs.batch.delete_line.Goals as goal
+use Rattle.line_batch.proofs.BatchLemmas.{bad_line}
+use Rattle.line_batch.proofs.batch.delete_line.Goals as goal
 
 pub returns-in_default : goal.returns-in_default
 returns-in_default g c = λ body n h.

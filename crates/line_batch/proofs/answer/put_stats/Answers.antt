@@ -1,8 +1,8 @@
 use Rattle.std.proofs.lemmas.Result.{err_from_is_err_and}
 use Rattle.run_model.specs.Answers.{figures_text, reply_text, Stats}
-use Rattle.tentris_core.specs.Seen.{figures_seen}
+use Rattle.line_batch.specs.Seen.{figures_seen}
 use Rattle.answer_text.proofs.PutLemmas.{puts_both, puts_first}
-use Rattle.tentris_core.proofs.answer.put_stats.Goals as goal
+use Rattle.line_batch.proofs.answer.put_stats.Goals as goal
 
 pub returns-in_err-put_figures-clause-put : goal.returns-in_err-put_figures-clause-put
 returns-in_err-put_figures-clause-put g c =

@@ -4,10 +4,10 @@ ghost use Rattle.run_model.specs.Sayings.{Saying, says};
 ghost use Rattle.script_model.specs.Commands as script;
 ghost use Rattle.graph_store.specs.State.{State};
 ghost use Rattle.graph_store.specs.Staging.{Fits, before};
-ghost use Rattle.tentris_core.specs.Carrying.{IsSound};
-ghost use Rattle.tentris_core.specs.Seen.{answer_of};
-ghost use Rattle.tentris_core.specs.Batches.{lent_line, IsBatch, IsCause, IsReady, AreStaged, AreToGo, ChangesStore};
-ghost use Rattle.tentris_core.specs.declared.batch.Batch.TheVariants.{Inserts, Deletes};
+ghost use Rattle.line_batch.specs.Sound.{IsSound};
+ghost use Rattle.line_batch.specs.Seen.{answer_of};
+ghost use Rattle.line_batch.specs.Batches.{lent_line, IsBatch, IsCause, IsReady, AreStaged, AreToGo, ChangesStore};
+ghost use Rattle.line_batch.specs.declared.batch.Batch.TheVariants.{Inserts, Deletes};
 
 use crate::answer::Answer;
 use crate::counts::Counts;
@@ -132,7 +132,7 @@ fn delete_line<M: Mix>(
 
 impl Batch {
     /// With one more line, of this number.
-    pub(crate) fn with_line<M: Mix>(
+    pub fn with_line<M: Mix>(
         self,
         store: &mut Store<M>,
         line: Option<&[u8]>,
@@ -152,7 +152,7 @@ impl Batch {
     }
 
     /// Puts in what is staged, or takes out what is marked.
-    pub(crate) fn carry_out<M: Mix, W: Ledger, V: Ledger, U: Ledger>(
+    pub fn carry_out<M: Mix, W: Ledger, V: Ledger, U: Ledger>(
         self,
         alloc: Global,
         store: &mut Store<M>,
@@ -170,7 +170,7 @@ impl Batch {
     }
 
     /// Leaves the store as it was before the first line.
-    pub(crate) fn abandon<M: Mix>(self, store: &mut Store<M>)
+    pub fn abandon<M: Mix>(self, store: &mut Store<M>)
         requires ready { IsReady store.old self }
         ensures { (s : State) (change : script.Change) (said : List Saying) → IsBatch s change said store.old self → store.new ≡ s }
     {

@@ -1,0 +1,4 @@
+pub mod GraphLemmas
+pub mod RefusalLemmas
+pub mod FullLemmas
+pub mod BatchLemmas

@@ -1,0 +1,10 @@
+//! Lines that change a graph, as one batch: they are judged as they come, and all of them are carried out, or none.
+#![tactic(auto)]
+
+mod answer;
+mod batch;
+mod counts;
+
+pub use answer::Answer;
+pub use batch::Batch;
+pub use counts::Counts;

@@ -18,7 +18,7 @@ use Rattle.answer_text.specs.declared.Refusal.TheVariants as cause
 use Rattle.answer_text.specs.Seen.{refusal_of}
 use Rattle.line_batch.specs.declared.batch.Batch.{Batch}
 use Rattle.line_batch.specs.declared.batch.Batch.TheVariants.{Inserts, Deletes, Refused}
-use Rattle.line_batch.specs.Batches.{batch_refusal, IsCause, IsBatch, IsReady, HasOneMore, AreStaged, AreToGo, ChangesBy, done, refused, no_memory, ChangesStore}
+use Rattle.line_batch.specs.Batches.{batch_refusal, IsCause, IsBatch, IsReady, HasOneMore, AreStaged, AreToGo, done, refused, no_memory, ChangesStore}
 use Rattle.line_batch.specs.Sound.{IsSound}
 use Rattle.line_batch.proofs.GraphLemmas.{lacked, had, lacked-none, had-none, lacked-push, had-push, union-lacked, difference-had}
 use Rattle.line_batch.proofs.RefusalLemmas.{refusal-front, refusal-push}

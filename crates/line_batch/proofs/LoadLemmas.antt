@@ -1,16 +1,15 @@
 -- A file, line by line, and what it does as a command.
-use Rattle.std.proofs.Common.{◌≡◌, ◌∙◌, ◌⊎◌, inl, inr, ℕ, zero, suc, ◌+◌, ◌-◌, ◌≤◌, ◌<◌, Bool, true, false, nat_le, List, [], ◌∷◌, ◌++◌, length, take, refl, sym, ap, subst, arith, append_assoc, append-nil, length-append}
-use Rattle.std.specs.Prelude.{Option, Some, None, Result, Ok, Err, if◌then◌else◌, map}
+use Rattle.std.proofs.Common.{◌≡◌, ◌∙◌, ◌⊎◌, inl, inr, ℕ, zero, suc, ◌+◌, ◌-◌, ◌≤◌, ◌<◌, Bool, true, false, nat_le, List, [], ◌∷◌, ◌++◌, length, take, refl, sym, ap, subst, arith, append-nil, length-append}
+use Rattle.std.specs.Prelude.{Option, Some, None, Result, Ok, Err, if◌then◌else◌}
 use Rattle.std.specs.Option.{option_or, IsSomeAnd}
 use Rattle.std.specs.FinMap as files_map
 use Rattle.std.proofs.lemmas.Bool.Decides.{nat_tests}
-use Rattle.std.proofs.lemmas.List.{map-append, take_all, take-append-le, length-map}
+use Rattle.std.proofs.lemmas.List.{map-append, take_all, length-map}
 use Rattle.text_lines.specs.Lines.{Line, lines_of, whole_lines_of}
 use Rattle.file_model.specs.FileMap.{FileMap, OfFile}
 use Rattle.file_model.specs.FileLines.{FileText, All, Long as long, BeginsWith, file_lines}
 use Rattle.tn_io.specs.CutterState.{line_told, to_come, whole_to_come}
 use Rattle.tn_io.specs.declared.cutter.Cut.{Cut}
-use Rattle.tn_io.specs.FileFaults.{FaultCounts}
 use Rattle.file_read.specs.ReaderState as reader
 use Rattle.file_read.specs.ReaderState.{HasTold, at_start}
 use Rattle.file_read.specs.ReaderCalls.{NextLine, FailedBehind}
@@ -32,12 +31,10 @@ use Rattle.answer_text.specs.declared.Refusal.TheVariants as cause
 use Rattle.answer_text.specs.Seen.{refusal_of}
 use Rattle.line_batch.specs.declared.batch.Batch.{Batch}
 use Rattle.line_batch.specs.declared.batch.Batch.TheVariants.{Inserts, Deletes, Refused}
-use Rattle.line_batch.specs.declared.file_lines.Gathered.{Gathered}
-use Rattle.line_batch.specs.declared.file_lines.Gathered.TheVariants as gathered
 use Rattle.line_batch.specs.Batches as changed
 use Rattle.line_batch.specs.Batches.{batch_refusal, IsCause, IsBatch, IsGoing, IsNone, HasOneMore, ChangesBy, ChangesStore}
 use Rattle.line_batch.specs.Carrying.{Around, config_in, world_in, Carries}
-use Rattle.line_batch.specs.Loading.{Has, HasWhole, IsFileCause, Gathers, file_command}
+use Rattle.line_batch.specs.Loading.{Has, HasWhole, IsFileCause, file_command}
 use Rattle.line_batch.specs.Sound.{IsSound}
 use Rattle.line_batch.proofs.BatchLemmas.{of_refused}
 use Rattle.line_batch.proofs.RefusalLemmas.{refusal-front}

@@ -1,5 +1,5 @@
 -- What is known where a file was read into a batch, and what a command that reads a file does.
-use Rattle.std.specs.Prelude.{◌≡◌, ℕ, ◌≤◌, List, [], Option, Some, None}
+use Rattle.std.specs.Prelude.{◌≡◌, ℕ, ◌≤◌, List, Option, Some, None}
 use Rattle.file_model.specs.FileMap.{FileMap, OfFile}
 use Rattle.file_model.specs.FileLines.{All, file_lines}
 use Rattle.text_lines.specs.Lines.{Line}
@@ -18,7 +18,6 @@ use Rattle.answer_text.specs.Seen.{refusal_of}
 use Rattle.line_batch.specs.Batches.{IsBatch, IsReady}
 use Rattle.line_batch.specs.Carrying.{Around, config_in, world_in, Carries}
 use Rattle.line_batch.specs.declared.batch.Batch.{Batch}
-use Rattle.line_batch.specs.declared.batch.Batch.TheVariants as batch
 use Rattle.line_batch.specs.declared.file_lines.Gathered.{Gathered}
 use Rattle.line_batch.specs.declared.file_lines.Gathered.TheVariants as gathered
 

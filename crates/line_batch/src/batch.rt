@@ -85,7 +85,11 @@ fn stage<M: Mix>(
 }
 
 // Marks a triple, or says why it can't be taken out.
-fn mark_triple<M: Mix>(store: &Store<M>, taken: &mut Taken, triple: TripleRef<'_>) -> Option<Refusal>
+fn mark_triple<M: Mix>(
+    store: &Store<M>,
+    taken: &mut Taken,
+    triple: TripleRef<'_>,
+) -> Option<Refusal>
     ensures there { AreMarked store.now taken.old → AreMarked store.now taken.new }
     ensures triple { (number : ℕ)
         → MarksOneMore number (saying_of (lent_triple triple.entry)) store.now taken.old taken.new result }

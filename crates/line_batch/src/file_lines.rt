@@ -106,7 +106,7 @@ pub fn load<M: Mix, F: Files, W: Ledger, V: Ledger, U: Ledger>(
     ensures carries { (A : Around) (change : script.Change) → Has A M.mixed reader.old.max (F.files files.old)
         → IsSound M.mixed store.old → IsNone store.old change batch
         → CarriesReads A store.old (file_command change scope.now name.now) store.new (answer_of result)
-            (F.faults files.old) (F.faults files.new) }
+        (F.faults files.old) (F.faults files.new) }
     ensures same { F.files files.new ≡ F.files files.old }
     ensures max { reader.new.max ≡ reader.old.max }
 {

@@ -1,7 +1,7 @@
 use Rattle.std.proofs.Common.{◌∙◌, ap, sym, subst}
 use Rattle.std.specs.Prelude.{Some}
 use Rattle.script_model.specs.Commands as script
-use Rattle.rdf_term.specs.Seen.{lent_triple, lent_triples}
+use Rattle.rdf_term.specs.Seen.{lent_triples}
 use Rattle.run_model.specs.Sayings.{says}
 use Rattle.line_batch.specs.Batches.{MarksOneMore}
 use Rattle.line_batch.proofs.BatchLemmas.{bad_line, note_marked}

@@ -23,20 +23,18 @@ returns-in-Ok-None-clause-gathers g c = λ A change has none.
     (next_in c.lines.invariant.same (c.in-Ok-None.is ∙ ap Ok c.in-Ok-None.field-0-is) c.next_line.ensures.next)
 
 pub returns-in-Err-Read-clause-gathers : goal.returns-in-Err-Read-clause-gathers
-returns-in-Err-Read-clause-gathers g c = λ A change has none.
-    (
-      c.abandon.ensures _ _ _ (c.lines.invariant.gathered.lines change none),
-      gather_fails _ _ _ _ _ _ _ _ _ c.lines.invariant.gathered _ A change (has_at _ (c.next_line.ensures.max ∙ c.lines.invariant.max) has) none (c.lines.invariant.going change none)
+returns-in-Err-Read-clause-gathers g c = λ A change has none. (
+  c.abandon.ensures _ _ _ (c.lines.invariant.gathered.lines change none),
+  gather_fails _ _ _ _ _ _ _ _ _ c.lines.invariant.gathered _ A change (has_at _ (c.next_line.ensures.max ∙ c.lines.invariant.max) has) none (c.lines.invariant.going change none)
       (next_in c.lines.invariant.same (c.in-Err-Read.is ∙ ap Err c.in-Err-Read.field-0-is) c.next_line.ensures.next),
-    )
+)
 
 pub returns-in-Err-Long-clause-gathers : goal.returns-in-Err-Long-clause-gathers
-returns-in-Err-Long-clause-gathers g c = λ A change has none.
-    (
-      c.abandon-in-Err-Long.ensures _ _ _ (c.lines.invariant.gathered.lines change none),
-      gather_long _ _ _ _ _ _ _ _ _ c.lines.invariant.gathered _ A change (has_at _ (c.next_line.ensures.max ∙ c.lines.invariant.max) has) none (c.lines.invariant.going change none)
+returns-in-Err-Long-clause-gathers g c = λ A change has none. (
+  c.abandon-in-Err-Long.ensures _ _ _ (c.lines.invariant.gathered.lines change none),
+  gather_long _ _ _ _ _ _ _ _ _ c.lines.invariant.gathered _ A change (has_at _ (c.next_line.ensures.max ∙ c.lines.invariant.max) has) none (c.lines.invariant.going change none)
       (next_in c.lines.invariant.same (c.in-Err-Long.is ∙ ap Err c.in-Err-Long.field-0-is) c.next_line.ensures.next),
-    )
+)
 
 pub lines-preserved : goal.lines-preserved
 lines-preserved g c =

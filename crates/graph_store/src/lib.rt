@@ -13,8 +13,6 @@ mod staged;
 mod store;
 mod taken;
 mod terms;
-#[cfg(test)]
-mod tests;
 mod trips;
 mod watch;
 

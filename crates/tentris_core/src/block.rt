@@ -132,7 +132,17 @@ fn load_file<M: Mix, F: Files, W: Ledger, V: Ledger, U: Ledger>(
     ensures files { F.files files.new ≡ F.files files.old }
 {
     let batch = Batch::inserts(alloc, store);
-    load(alloc, batch, store, files, &mut tools.reader, scope, name, &mut tools.scratch, &mut tools.counts)
+    load(
+        alloc,
+        batch,
+        store,
+        files,
+        &mut tools.reader,
+        scope,
+        name,
+        &mut tools.scratch,
+        &mut tools.counts,
+    )
 }
 
 // Takes the triples of a file away.
@@ -154,7 +164,17 @@ fn unload_file<M: Mix, F: Files, W: Ledger, V: Ledger, U: Ledger>(
     ensures files { F.files files.new ≡ F.files files.old }
 {
     let batch = Batch::deletes(alloc, store);
-    load(alloc, batch, store, files, &mut tools.reader, scope, name, &mut tools.scratch, &mut tools.counts)
+    load(
+        alloc,
+        batch,
+        store,
+        files,
+        &mut tools.reader,
+        scope,
+        name,
+        &mut tools.scratch,
+        &mut tools.counts,
+    )
 }
 
 // Takes a line outside a block.
@@ -192,7 +212,14 @@ fn outside<M: Mix, F: Files, W: Ledger, V: Ledger, U: Ledger>(
             (Place::Outside, Some(answer))
         }
         Some(Command::Generate(count, salt)) => {
-            let answer = generate(alloc, store, count, salt, &mut tools.scratch, &mut tools.counts);
+            let answer = generate(
+                alloc,
+                store,
+                count,
+                salt,
+                &mut tools.scratch,
+                &mut tools.counts,
+            );
             (Place::Outside, Some(answer))
         }
         Some(Command::Dump) => (Place::Outside, Some(dump(alloc, store))),
@@ -273,7 +300,7 @@ fn asks<M: Mix, K: Sink, W: Ledger, V: Ledger, U: Ledger>(
     ensures same_sink { out.new.sink.ghost_name ≡ out.old.sink.ghost_name }
     ensures takes { (A : Around) (body : List Line) (faults : FaultCounts) → A.sorted ≡ sorted → IsSound A.mixed store.now → IsGathered body question
         → TakesLine A (Inside script.Question body) (lent_line line.entry) store.now store.now result.0
-            (effects (K.written out.old.sink.now) faults) (effects (K.written out.new.sink.now) faults) result.1 }
+        (effects (K.written out.old.sink.now) faults) (effects (K.written out.new.sink.now) faults) result.1 }
     ensures empty { IsPassedOn result.1 out.new }
     ensures cause { HasOutcome (K.faults out.old.sink.now) (K.faults out.new.sink.now) result.1 }
 {
@@ -317,7 +344,7 @@ pub fn take_line<M: Mix, F: Files, K: Sink, W: Ledger, V: Ledger, U: Ledger>(
     ensures takes { (A : Around) (p : Position) (s : State) → A ≡ around M.mixed tools.old.sorted tools.old.reader.max (F.files files.old)
         → IsSound A.mixed s → IsAt p s store.old place
         → TakesLine A p (lent_line line.entry) s store.new result.0
-            (effects (K.written out.old.sink.now) (F.faults files.old)) (effects (K.written out.new.sink.now) (F.faults files.new)) result.1 }
+        (effects (K.written out.old.sink.now) (F.faults files.old)) (effects (K.written out.new.sink.now) (F.faults files.new)) result.1 }
     ensures sorted { tools.new.sorted ≡ tools.old.sorted }
     ensures most { tools.new.reader.max ≡ tools.old.reader.max }
     ensures files { F.files files.new ≡ F.files files.old }
@@ -334,7 +361,14 @@ pub fn take_line<M: Mix, F: Files, K: Sink, W: Ledger, V: Ledger, U: Ledger>(
             asks(alloc, store, question, line, sorted, &mut tools.counts, out)
         }
         Place::Inside(block) => {
-            let (next, answer) = inside(alloc, store, block, line, &mut tools.scratch, &mut tools.counts);
+            let (next, answer) = inside(
+                alloc,
+                store,
+                block,
+                line,
+                &mut tools.scratch,
+                &mut tools.counts,
+            );
             (next, tell(out, answer))
         }
     }

@@ -118,10 +118,14 @@ fn finish<M: Mix, K: Sink, Z: Watch>(
     ensures later { K.faults out.old.sink.now ≤ K.faults out.new.sink.now }
     ensures fault { result ≡ Status.WriteFault → Rose (K.faults out.old.sink.now) (K.faults out.new.sink.now) }
 {
-    let ended = matches!(place, Place::Outside);
+    let ended = matches!(&place, Place::Outside);
     place.abandon(store);
     if ended {
-        return if refused { Status::SomeRefused } else { Status::Done };
+        return if refused {
+            Status::SomeRefused
+        } else {
+            Status::Done
+        };
     }
     let status = refuse_unended(out);
     watch.seen(store);
@@ -264,7 +268,16 @@ fn run_script<M: Mix, F: Files, S: Source, K: Sink, Z: Watch, W: Ledger, V: Ledg
     };
     store.set_max(settings.max_triples);
     let mut out = Out::new(sink);
-    carry_out(alloc, &mut script, &mut tools, store, files, source, &mut out, watch)
+    carry_out(
+        alloc,
+        &mut script,
+        &mut tools,
+        store,
+        files,
+        source,
+        &mut out,
+        watch,
+    )
 }
 
 // Puts the text of help, and passes it on whole.

@@ -34,10 +34,10 @@ pub returns-in-Asks-clause-takes : goal.returns-in-Asks-clause-takes
 returns-in-Asks-clause-takes g c = λ A p s is sound at. by A p s is sound (subst (IsAt p s c.args.store.now) c.in-Asks.is at) where
   by : (A : Around) (p : Position) (s : State) → A ≡ around g.M.Mix.mixed c.args.tools.now.sorted c.args.tools.now.reader.max (g.F.Files.files c.args.files.now) → IsSound A.mixed s → IsAt p s c.args.store.now (place.Asks c.in-Asks.question)
       → TakesLine A p (lent_line c.args.line) s c.args.store.now c.asks.result.0
-          (effects (g.K.Sink.written c.args.out.now.sink.now) (g.F.Files.faults c.args.files.now)) (effects (g.K.Sink.written c.asks.new.out.sink.now) (g.F.Files.faults c.args.files.now)) c.asks.result.1
+      (effects (g.K.Sink.written c.args.out.now.sink.now) (g.F.Files.faults c.args.files.now)) (effects (g.K.Sink.written c.asks.new.out.sink.now) (g.F.Files.faults c.args.files.now)) c.asks.result.1
   by A Outside s is sound at = absurd at
   by A (Inside (Triples change) body) s is sound at = absurd at
   by A (Inside Question body) s is sound at =
       subst (λ z. TakesLine A (Inside Question body) (lent_line c.args.line) z c.args.store.now c.asks.result.0
-        (effects (g.K.Sink.written c.args.out.now.sink.now) (g.F.Files.faults c.args.files.now)) (effects (g.K.Sink.written c.asks.new.out.sink.now) (g.F.Files.faults c.args.files.now)) c.asks.result.1) at.0
+      (effects (g.K.Sink.written c.args.out.now.sink.now) (g.F.Files.faults c.args.files.now)) (effects (g.K.Sink.written c.asks.new.out.sink.now) (g.F.Files.faults c.args.files.now)) c.asks.result.1) at.0
       (c.asks.ensures.takes A body (g.F.Files.faults c.args.files.now) (ap (λ z. z.sorted) is) (subst (IsSound A.mixed) (sym at.0) sound) at.1)

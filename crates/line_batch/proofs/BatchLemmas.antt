@@ -1,22 +1,26 @@
 -- Lines, staged or marked one by one, and what they then do to the store.
-use Rattle.std.proofs.Common.{◌≡◌, ◌∙◌, ◌⊎◌, inl, inr, ℕ, ◌+◌, ◌≤◌, true, false, nat_lt, List, [], ◌∷◌, ◌++◌, length, refl, sym, ap, subst, arith, append-nil}
+use Rattle.std.proofs.Common.{◌≡◌, ◌∙◌, ◌⊎◌, inl, inr, ℕ, ◌+◌, ◌≤◌, true, false, nat_lt, List, [], ◌∷◌, ◌++◌, length, refl, sym, ap, subst, arith, append-nil, append_assoc}
 use Rattle.std.specs.Prelude.{Option, Some, None, if◌then◌else◌}
 use Rattle.std.specs.FinSet as set
 use Rattle.hypertrie_model.specs.IdSets.{IdSet}
 use Rattle.rdf_model.specs.Terms as model
-use Rattle.rdf_model.specs.Graph.{Graph}
+use Rattle.rdf_model.specs.Graph.{Graph, triple_cmp}
+use Rattle.graph_image.specs.ImageLaws.{graph_of-empty}
 use Rattle.script_model.specs.Commands as script
 use Rattle.run_model.specs.Answers as answers
 use Rattle.run_model.specs.Sayings.{Saying, triples_said, triples_of, is_over, refusal_at}
 use Rattle.run_model.proofs.RefusalLaws.{triples_of-push}
-use Rattle.graph_store.specs.State.{State, graph}
-use Rattle.graph_store.specs.Staging.{Staging, staged_graph, Fits, before, IsFull, AreMarked, marked_graph}
+use Rattle.graph_store.specs.State.{State, graph, IsSettled, most_triples}
+use Rattle.graph_store.specs.Staging.{Staging, nothing_staged, staged_graph, Fits, before, IsFull, AreMarked, marked_graph}
+use Rattle.graph_store.specs.StagingLaws.{fits_nothing, before_nothing, marked_nothing}
 use Rattle.answer_text.specs.declared.Refusal.{Refusal}
 use Rattle.answer_text.specs.declared.Refusal.TheVariants as cause
 use Rattle.answer_text.specs.Seen.{refusal_of}
-use Rattle.line_batch.specs.Batches.{batch_refusal, IsCause, AreStaged, AreToGo, ChangesBy, done, refused, no_memory, ChangesStore}
+use Rattle.line_batch.specs.declared.batch.Batch.{Batch}
+use Rattle.line_batch.specs.declared.batch.Batch.TheVariants.{Inserts, Deletes, Refused}
+use Rattle.line_batch.specs.Batches.{batch_refusal, IsCause, IsBatch, IsReady, HasOneMore, AreStaged, AreToGo, ChangesBy, done, refused, no_memory, ChangesStore}
 use Rattle.line_batch.specs.Sound.{IsSound}
-use Rattle.line_batch.proofs.GraphLemmas.{lacked, had, lacked-push, had-push, union-lacked, difference-had}
+use Rattle.line_batch.proofs.GraphLemmas.{lacked, had, lacked-none, had-none, lacked-push, had-push, union-lacked, difference-had}
 use Rattle.line_batch.proofs.RefusalLemmas.{refusal-front, refusal-push}
 use Rattle.line_batch.proofs.FullLemmas.{HasRoomFor, IsFullFor, over_alone, not_over_alone, full_over, not_full_over}
 
@@ -195,3 +199,64 @@ deleted {mixed} s body taken t changed now h is c n sound max = record {
   sound = sound;
   max = max;
 }
+
+-- ---- batches
+
+-- a batch of a sound store can be carried out
+pub ready_batch : {mixed : ℕ → ℕ → ℕ → ℕ → ℕ} (s : State) (change : script.Change) (body : List Saying) (held : State) (b : Batch) → IsSound mixed s → IsBatch s change body held b → IsReady held b
+ready_batch {mixed} s script.Inserts body held (Inserts staged) sound h = h.fits
+ready_batch {mixed} s script.Deletes body held (Inserts staged) sound h = absurd h
+ready_batch {mixed} s script.Inserts body held (Deletes taken) sound h = absurd h
+ready_batch {mixed} s script.Deletes body held (Deletes taken) sound h = (subst IsSettled (sym h.0) sound.settled, subst (λ z. AreMarked z taken) (sym h.0) h.1.there)
+ready_batch {mixed} s script.Inserts body held (Refused cause) sound h = tt
+ready_batch {mixed} s script.Deletes body held (Refused cause) sound h = tt
+
+-- a refused batch leaves the store as it was, and has a cause
+pub of_refused : (s : State) (change : script.Change) (body : List Saying) (now : State) (r : Refusal) → IsBatch s change body now (Refused r) → (now ≡ s) × IsCause s change body r
+of_refused s script.Inserts body now r h = h
+of_refused s script.Deletes body now r h = h
+
+pub is_refused_batch : (s : State) (change : script.Change) (body : List Saying) (now : State) (r : Refusal) → now ≡ s → IsCause s change body r → IsBatch s change body now (Refused r)
+is_refused_batch s script.Inserts body now r same h = (same, h)
+is_refused_batch s script.Deletes body now r same h = (same, h)
+
+-- with one more line it stays refused
+pub refused_more : (s : State) (change : script.Change) (body : List Saying) (now : State) (l : Saying) (r : Refusal) → IsBatch s change body now (Refused r) → IsBatch s change (body ++ l ∷ []) now (Refused r)
+refused_more s change body now l r h = let was = of_refused s change body now r h in is_refused_batch s change (body ++ l ∷ []) now r was.0 (cause_stays s change body l r was.1)
+
+-- and with any more
+pub refused_front : (s : State) (change : script.Change) (body : List Saying) (now : State) (r : Refusal) (more : List Saying) → IsBatch s change body now (Refused r) → IsBatch s change (body ++ more) now (Refused r)
+refused_front s change body now r [] h = subst (λ z. IsBatch s change z now (Refused r)) (sym (append-nil body)) h
+refused_front s change body now r (l ∷ more) h =
+    subst (λ z. IsBatch s change z now (Refused r)) (append_assoc body (l ∷ []) more) (refused_front s change (body ++ l ∷ []) now r more (refused_more s change body now l r h))
+
+-- nothing is staged, and nothing is marked
+pub none_staged : (s : State) → IsSettled s → set.len (graph s) ≤ most_triples → AreStaged s [] s nothing_staged
+none_staged s settled few = record {
+  fits = fits_nothing s settled few;
+  start = before_nothing s;
+  same = refl;
+  triples = graph_of-empty s.dict ∙ sym (lacked-none (graph s));
+  good = refl;
+  within = inl (ap set.len (graph_of-empty s.dict) ∙ set.len-empty triple_cmp);
+}
+
+pub none_marked : (s : State) → AreToGo s [] set.empty
+none_marked s = record { there = marked_nothing s; triples = graph_of-empty s.dict ∙ sym (had-none (graph s)); good = refl }
+
+-- ---- one more line
+
+module _ (number : ℕ) (l : Saying) where
+  pub of_staged : (old : State) (staged : Staging) (now : State) (next : Batch) → ((s : State) (said : List Saying) → number ≡ length said + 1 → AreStaged s said old staged → IsBatch s script.Inserts (said ++ l ∷ []) now next)
+      → HasOneMore number l old (Inserts staged) now next
+  of_staged old staged now next f s script.Inserts said n h = f s said n h
+  of_staged old staged now next f s script.Deletes said n h = absurd h
+
+  pub of_marked : (old : State) (taken : IdSet) (next : Batch) → ((said : List Saying) → number ≡ length said + 1 → AreToGo old said taken → IsBatch old script.Deletes (said ++ l ∷ []) old next)
+      → HasOneMore number l old (Deletes taken) old next
+  of_marked old taken next f s script.Inserts said n h = absurd h
+  of_marked old taken next f s script.Deletes said n h =
+      subst (λ z. IsBatch z script.Deletes (said ++ l ∷ []) old next) h.0 (f said n (subst (λ z. AreToGo z said taken) (sym h.0) h.1))
+
+  pub of_no_batch : (old : State) (r : Refusal) → HasOneMore number l old (Refused r) old (Refused r)
+  of_no_batch old r s change said n h = refused_more s change said old l r h

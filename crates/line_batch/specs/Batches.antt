@@ -1,15 +1,16 @@
 -- What is known of the lines of a batch, and of the store in which their triples are staged or marked.
-use Rattle.std.specs.Prelude.{◌≡◌, ◌⊎◌, ℕ, ◌+◌, ◌≤◌, true, List, [], Option, Some, None}
+use Rattle.std.specs.Prelude.{◌≡◌, ◌⊎◌, ℕ, ◌+◌, ◌≤◌, true, List, [], ◌∷◌, ◌++◌, length, Option, Some, None, MatchOption}
 use Rattle.std.specs.Borrow.{Bor}
 use Rattle.std.specs.FinSet as set
 use Rattle.hypertrie_model.specs.IdSets.{IdSet}
+use Rattle.rdf_model.specs.Terms.{Text}
 use Rattle.rdf_model.specs.Graph.{Graph}
+use Rattle.ntriples_model.specs.Proper.{IsScope}
 use Rattle.text_lines.specs.Lines.{Line}
 use Rattle.script_model.specs.Commands as script
 use Rattle.run_model.specs.Answers as answers
 use Rattle.run_model.specs.Answers.{is_refused}
-use Rattle.run_model.specs.Sayings.{Saying, triples_of, first_refusal}
-use Rattle.run_model.specs.Steps.{Changes}
+use Rattle.run_model.specs.Sayings.{Saying, triples_of, first_refusal, Changes}
 use Rattle.graph_store.specs.State.{State, graph, IsSettled}
 use Rattle.graph_store.specs.Staging.{Staging, staged_graph, Fits, before, AreMarked, marked_graph}
 use Rattle.answer_text.specs.declared.Refusal.{Refusal}
@@ -22,6 +23,11 @@ use Rattle.line_batch.specs.declared.batch.Batch.TheVariants.{Inserts, Deletes, 
 abbrev pub lent_line : Option (Bor (List ℕ)) → Line
 lent_line None = None
 lent_line (Some line) = Some line.now
+
+-- the lines of a block and of a file may be read under it: no scope, or the letters and digits of one
+pub record MayBeScope (scope : Text) : Type 0 where
+  pub short : length scope ≤ 64
+  pub letters : IsScope scope
 
 -- What lines change in a graph that may have so many triples, and the answer: all of them, or nothing with a refusal.
 pub data ChangesBy (most : ℕ) (change : script.Change) (said : List Saying) (G : Graph) : Graph → answers.Answer → Type 0 where
@@ -76,8 +82,36 @@ IsBatch s script.Inserts said now (Deletes taken) = ⊥
 IsBatch s script.Deletes said now (Deletes taken) = (now ≡ s) × AreToGo s said taken
 IsBatch s change said now (Refused cause) = (now ≡ s) × IsCause s change said cause
 
+-- no line of the batch was refused
+abbrev pub IsGoing : Batch → Type 0
+IsGoing (Inserts staged) = Unit {0}
+IsGoing (Deletes taken) = Unit {0}
+IsGoing (Refused cause) = ⊥
+
+-- a batch over the store without a line yet
+abbrev pub IsNone : State → script.Change → Batch → Type 0
+IsNone s change batch = IsBatch s change [] s batch × IsGoing batch
+
 -- the store can carry the batch out
 abbrev pub IsReady : State → Batch → Type 0
 IsReady now (Inserts staged) = Fits now staged
 IsReady now (Deletes taken) = IsSettled now × AreMarked now taken
 IsReady now (Refused cause) = Unit {0}
+
+-- One more line that says this, of this number, is among the staged ones, or there is a cause why it can't be.
+abbrev pub StagesOneMore : ℕ → Saying → State → Staging → State → Staging → Option Refusal → Type 0
+StagesOneMore number saying old staged now more why =
+    (s : State) (said : List Saying) → number ≡ length said + 1 → AreStaged s said old staged
+    → MatchOption why (AreStaged s (said ++ saying ∷ []) now more) (IsCause s script.Inserts (said ++ saying ∷ []))
+
+-- One more line that says this, of this number, is among the marked ones, or there is a cause why it can't be.
+abbrev pub MarksOneMore : ℕ → Saying → State → IdSet → IdSet → Option Refusal → Type 0
+MarksOneMore number saying s taken more why =
+    (said : List Saying) → number ≡ length said + 1 → AreToGo s said taken
+    → MatchOption why (AreToGo s (said ++ saying ∷ []) more) (IsCause s script.Deletes (said ++ saying ∷ []))
+
+-- A batch over a store has become another by one more line, which says this and has this number.
+abbrev pub HasOneMore : ℕ → Saying → State → Batch → State → Batch → Type 0
+HasOneMore number saying old batch now next =
+    (s : State) (change : script.Change) (said : List Saying) → number ≡ length said + 1 → IsBatch s change said old batch
+    → IsBatch s change (said ++ saying ∷ []) now next

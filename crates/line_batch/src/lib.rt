@@ -4,7 +4,11 @@
 mod answer;
 mod batch;
 mod counts;
+mod file_lines;
+mod generated_lines;
 
 pub use answer::Answer;
 pub use batch::Batch;
 pub use counts::Counts;
+pub use file_lines::load;
+pub use generated_lines::generate;

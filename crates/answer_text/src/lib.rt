@@ -5,8 +5,6 @@
 mod pieces;
 mod reply;
 mod row;
-#[cfg(test)]
-mod tests;
 
 pub use pieces::put_lines;
 pub use reply::{Figures, Refusal, Reply, ok, put_figures, refused};

@@ -14,4 +14,3 @@ pub mod BeginLemmas
 pub mod RowLemmas
 pub mod ListingLemmas
 pub mod MakeLemmas
-pub mod TrialLemmas

@@ -5,4 +5,3 @@ pub mod Search
 pub mod Rows
 pub mod Listing
 pub mod Starts
-pub mod Trials

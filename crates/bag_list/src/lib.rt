@@ -7,8 +7,6 @@ mod labels;
 mod level;
 mod lister;
 mod search;
-#[cfg(test)]
-mod tests;
 mod track;
 
 pub use lister::{Lister, whole_listings};

@@ -1,15 +1,25 @@
 //! The chunks of a map. Most maps have one, which lies in the map itself.
-ghost use Rattle.std.specs.Prelude.{◌≡◌, []};
+ghost use Rattle.std.specs.Prelude.{◌≡◌, ◌≤◌, ◌^◌, [], IfOk, length};
+ghost use Rattle.edge_map.specs.Chunks.{flat};
 
 use crate::chunk::Chunk;
+use crate::chunks::total;
 use std::alloc::Global;
 use std::marker::Model;
+use trie_depth::Memory;
+
+/// Chunks, and how many entries they have.
+#[derive(Drop)]
+pub struct Long {
+    size: usize,
+    chunks: Vec<Chunk>,
+}
 
 #[derive(Drop)]
 pub enum Listed {
     Nothing,
     One(Chunk),
-    Many(Vec<Chunk>),
+    Many(Box<Long>),
 }
 
 pub struct ChunkList {
@@ -27,11 +37,13 @@ impl Model for ChunkList {
     ghost use Rattle.std.specs.Prelude.{List};
     ghost use Rattle.trie_depth.specs.declared.id.Id.{Id};
     ghost use Rattle.edge_map.specs.declared.edge.Edge.{Edge};
-    ghost use Rattle.edge_map.specs.Lists.{chunks_in};
+    ghost use Rattle.edge_map.specs.Lists.{chunks_in, IsCounted};
 
     ghost Value = { List (List (Id × Edge)) };
 
     ghost view = { λ l. chunks_in l.listed };
+
+    ghost invariant = { λ l. IsCounted l.listed };
 }
 
 impl ChunkList {
@@ -44,20 +56,34 @@ impl ChunkList {
     }
 
     /// The same chunks, without a list of their own where they are one or none.
-    pub fn of(chunks: Vec<Chunk>) -> ChunkList
-        ensures { result ≡ chunks.items }
+    pub fn of(alloc: Global, chunks: Vec<Chunk>) -> Result<ChunkList, Memory>
+        requires { length (flat chunks.items) ≤ 2 ^ 32 }
+        ensures { IfOk result (λ list. list ≡ chunks.items) }
     {
         let mut chunks = chunks;
         if chunks.len() > 1 {
-            return ChunkList {
-                listed: Listed::Many(chunks),
-            };
+            let size = total(&chunks);
+            let long = Box::new(alloc, Long { size, chunks })?;
+            return Ok(ChunkList {
+                listed: Listed::Many(long),
+            });
         }
         match chunks.pop() {
-            Some(chunk) => ChunkList {
+            Some(chunk) => Ok(ChunkList {
                 listed: Listed::One(chunk),
-            },
-            None => ChunkList::new(),
+            }),
+            None => Ok(ChunkList::new()),
+        }
+    }
+
+    /// How many entries the chunks have.
+    pub fn len(&self) -> usize
+        ensures { result ≡ length (flat self.now) }
+    {
+        match &self.listed {
+            Listed::Nothing => 0,
+            Listed::One(chunk) => chunk.len(),
+            Listed::Many(long) => long.size,
         }
     }
 
@@ -67,7 +93,7 @@ impl ChunkList {
         match &self.listed {
             Listed::Nothing => &[],
             Listed::One(chunk) => std::slice::from_ref(chunk),
-            Listed::Many(chunks) => chunks,
+            Listed::Many(long) => &long.chunks,
         }
     }
 }

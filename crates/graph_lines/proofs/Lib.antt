@@ -4,4 +4,3 @@ pub mod MapLemmas
 pub mod DumpLemmas
 pub mod MemberLemmas
 pub mod RowLemmas
-pub mod TriedLemmas

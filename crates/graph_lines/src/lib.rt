@@ -7,8 +7,6 @@ mod members;
 mod row_lines;
 mod shape;
 mod sorted;
-#[cfg(test)]
-mod tests;
 mod triple_lines;
 
 pub use dumping::dump;

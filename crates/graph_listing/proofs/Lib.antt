@@ -2,4 +2,3 @@ pub mod PartLemmas
 pub mod NextLemmas
 pub mod ValueLemmas
 pub mod StartLemmas
-pub mod TrialLemmas

@@ -6,7 +6,5 @@
 
 mod listing;
 mod starts;
-#[cfg(test)]
-mod tests;
 
 pub use listing::{Listing, whole_listings};

@@ -4,3 +4,4 @@ pub mod Staging
 pub mod Noted
 pub mod Forgotten
 pub mod StagingLaws
+pub mod Watching

@@ -13,12 +13,12 @@ mod staged;
 mod store;
 mod taken;
 mod terms;
-#[cfg(test)]
-mod tests;
 mod trips;
+mod watch;
 
 pub use graph_listing::{Listing, whole_listings};
 pub use report::Stats;
 pub use staged::{StageFault, Staged};
 pub use store::{Changed, Store};
 pub use taken::Taken;
+pub use watch::{KeepDumps, NoWatch, Watch};

@@ -7,31 +7,45 @@ use Rattle.std.specs.BTreeMap as tree
 use Rattle.std.specs.BTreeMap.{BTreeMap}
 use Rattle.smallvec.specs.SmallVec.{SmallVec}
 
--- lists of numbers under hashes
+-- for each hash with one number alone, the number
+abbrev pub Alone : Type 0
+Alone = BTreeMap ℕ ℕ
+
+-- lists of numbers under the other hashes
 abbrev pub Lists : Type 0
 Lists = BTreeMap ℕ (SmallVec ℕ)
+
+-- the numbers of each hash
+abbrev pub Numbers : Type 0
+Numbers = ℕ → List ℕ
 
 abbrev pub items_of : Option (SmallVec ℕ) → List ℕ
 items_of None = []
 items_of (Some list) = list.items
 
+abbrev pub one_or : Option ℕ → List ℕ → List ℕ
+one_or None numbers = numbers
+one_or (Some number) numbers = number ∷ []
+
 -- the numbers that stand under a hash
-abbrev pub numbers_at : Lists → ℕ → List ℕ
-numbers_at lists hash = items_of (tree.get nat_cmp lists hash)
+abbrev pub numbers_at : Alone → Lists → Numbers
+numbers_at alone lists hash = one_or (tree.get nat_cmp alone hash) (items_of (tree.get nat_cmp lists hash))
 
 -- these numbers, each with the hash
 abbrev pub with_hash : ℕ → List ℕ → List (ℕ × ℕ)
 with_hash hash [] = []
 with_hash hash (number ∷ numbers) = (number, hash) ∷ with_hash hash numbers
 
--- the numbers that stand under these hashes, each with its hash
-abbrev pub listed : Lists → List (ℕ × SmallVec ℕ) → List (ℕ × ℕ)
-listed lists [] = []
-listed lists (entry ∷ entries) = with_hash entry.0 (numbers_at lists entry.0) ++ listed lists entries
+-- the numbers of the hashes of these entries, each with its hash, before what is given
+abbrev pub listed : {X : Type 0} → Numbers → List (ℕ × X) → List (ℕ × ℕ) → List (ℕ × ℕ)
+listed numbers [] rest = rest
+listed numbers (entry ∷ entries) rest = with_hash entry.0 (numbers entry.0) ++ listed numbers entries rest
 
 -- the hash of each number
-unfoldable pub hashes_of : Lists → FinMap nat_cmp ℕ
-hashes_of lists = map.from_entries (listed lists lists.entries)
+unfoldable pub hashes_of : Alone → Lists → FinMap nat_cmp ℕ
+hashes_of alone lists =
+    let numbers = numbers_at alone lists in
+    map.from_entries (listed numbers alone.entries (listed numbers lists.entries []))
 
 -- how often a number stands in a list
 abbrev pub times : ℕ → List ℕ → ℕ
@@ -42,23 +56,29 @@ abbrev pub one_at : Option ℕ → ℕ → ℕ
 one_at None hash = 0
 one_at (Some own) hash = if own == hash then 1 else 0
 
--- each number stands once in the list of its hash, and in no other
-abbrev pub IsListedOnce : FinMap nat_cmp ℕ → Lists → Type 0
-IsListedOnce hashes lists = (hash number : ℕ) → times number (numbers_at lists hash) ≡ one_at (map.get hashes number) hash
+-- each number stands once under its hash, and under no other
+abbrev pub IsListedOnce : FinMap nat_cmp ℕ → Numbers → Type 0
+IsListedOnce hashes numbers = (hash number : ℕ) → times number (numbers hash) ≡ one_at (map.get hashes number) hash
 
--- no list is empty
-abbrev pub AreFull : Lists → Type 0
-AreFull lists = (hash : ℕ) (list : SmallVec ℕ) → tree.get nat_cmp lists hash ≡ Some list → 0 < length list.items
+-- no list is empty, and no hash with a list has a number alone
+pub record IsFormed (alone : Alone) (lists : Lists) : Type 0 where
+  pub full : (hash : ℕ) (list : SmallVec ℕ) → tree.get nat_cmp lists hash ≡ Some list → 0 < length list.items
+  pub apart : (hash : ℕ) (list : SmallVec ℕ) → tree.get nat_cmp lists hash ≡ Some list → tree.get nat_cmp alone hash ≡ None
 
-pub record IsSound (lists : Lists) : Type 0 where
-  pub once : IsListedOnce (hashes_of lists) lists
-  pub full : AreFull lists
+pub record IsSound (alone : Alone) (lists : Lists) : Type 0 where
+  pub once : IsListedOnce (hashes_of alone lists) (numbers_at alone lists)
+  pub formed : IsFormed alone lists
 
--- the lists after a change of what stands under one hash
-pub record Changes (old new : Lists) (hash : ℕ) (numbers : List ℕ) : Type 0 where
-  pub changed : numbers_at new hash ≡ numbers
-  pub others : (other : ℕ) → (other ≡ hash → ⊥) → numbers_at new other ≡ numbers_at old other
-  pub full : AreFull old → AreFull new
+abbrev pub AreSame : Numbers → Numbers → Type 0
+AreSame old new = (hash : ℕ) → new hash ≡ old hash
+
+-- they are the same under every other hash
+abbrev pub AreSameBut : ℕ → Numbers → Numbers → Type 0
+AreSameBut hash old new = (other : ℕ) → (other ≡ hash → ⊥) → new other ≡ old other
+
+-- under the hash stands one number more, behind the others
+abbrev pub Adds : ℕ → ℕ → Numbers → Numbers → Type 0
+Adds hash number old new = (new hash ≡ old hash ++ number ∷ []) × AreSameBut hash old new
 
 -- the number stands once less, and every other number as often
 abbrev pub TakesOne : ℕ → List ℕ → List ℕ → Type 0

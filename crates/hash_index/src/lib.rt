@@ -3,26 +3,28 @@
 //! Contracts see a finite map from each number to the hash under which it is listed, and nothing of lists.
 #![tactic(auto)]
 
-#[cfg(test)]
-mod tests;
-
 ghost use Rattle.std.specs.Prelude.{◌≡◌, ◌↔◌, ℕ, ◌+◌, ◌++◌, ◌∷◌, [], ◌<◌, ◌≤◌, None, Some, OnOk, OnErr, length, slice_index};
 ghost use Rattle.std.specs.List.{Contains};
 ghost use Rattle.std.specs.FinMap as map;
-ghost use Rattle.hash_index.specs.Index.{numbers_at, times, AreFull, Changes, TakesOne};
+ghost use Rattle.hash_index.specs.Index.{numbers_at, times, IsFormed, AreSame, AreSameBut, Adds, TakesOne};
 
 use smallvec::SmallVec;
 use std::alloc::Global;
 use std::collections::BTreeMap;
 use std::marker::Model;
+use std::slice;
 use trie_depth::Memory;
 
 /// The numbers of one hash. Two lie inline, in the bytes that a longer list takes by itself.
 type Numbers = SmallVec<usize, 2>;
 
+/// Most hashes have one number, so an entry of theirs has that number in place of a list.
 #[derive(Drop)]
 pub struct HashIndex {
     alloc: Global,
+    /// The number of each hash that has it alone.
+    alone: BTreeMap<u64, usize>,
+    /// The numbers of each hash that has more, or had.
     lists: BTreeMap<u64, Numbers>,
 }
 
@@ -37,9 +39,9 @@ impl Model for HashIndex {
 
     ghost coded = { map.code coded_ℕ coded_ℕ };
 
-    ghost view = { λ index. hashes_of index.lists };
+    ghost view = { λ index. hashes_of index.alone index.lists };
 
-    ghost invariant = { λ index. IsSound index.lists };
+    ghost invariant = { λ index. IsSound index.alone index.lists };
 }
 
 impl HashIndex {
@@ -48,6 +50,7 @@ impl HashIndex {
     {
         HashIndex {
             alloc,
+            alone: BTreeMap::new(alloc),
             lists: BTreeMap::new(alloc),
         }
     }
@@ -57,7 +60,7 @@ impl HashIndex {
         ensures exactly { (number : ℕ) → Contains result.now number ↔ (map.get self.now number ≡ Some hash) }
         ensures once { (number : ℕ) → times number result.now ≤ 1 }
     {
-        numbers_under(&self.lists, hash)
+        numbers_under(&self.alone, &self.lists, hash)
     }
 
     /// Lists a number under a hash.
@@ -67,55 +70,81 @@ impl HashIndex {
         ensures kept { OnErr result (self.new ≡ self.old) }
     {
         let alloc = self.alloc;
-        list_number(&mut self.lists, alloc, hash, number)
+        list_number(&mut self.alone, &mut self.lists, alloc, hash, number)
     }
 
-    /// Takes a number out of the list of its hash. It takes no memory.
+    /// Takes a number from under its hash. It takes no memory.
     pub fn remove(&mut self, hash: u64, number: usize)
         requires { map.get self.old number ≡ Some hash }
         ensures { self.new ≡ map.remove self.old number }
     {
-        unlist_number(&mut self.lists, hash, number);
+        unlist_number(&mut self.alone, &mut self.lists, hash, number);
     }
 }
 
 fn list_number(
+    alone: &mut BTreeMap<u64, usize>,
     lists: &mut BTreeMap<u64, Numbers>,
     alloc: Global,
     hash: u64,
     number: usize,
 ) -> Result<(), Memory>
-    ensures listed { OnOk result (Changes lists.old lists.new hash (numbers_at lists.old hash ++ number ∷ [])) }
-    ensures kept { OnErr result (Changes lists.old lists.new hash (numbers_at lists.old hash)) }
+    requires formed { IsFormed alone.old lists.old }
+    ensures listed { OnOk result (Adds hash number (numbers_at alone.old lists.old) (numbers_at alone.new lists.new)) }
+    ensures kept { OnErr result (AreSame (numbers_at alone.old lists.old) (numbers_at alone.new lists.new)) }
+    ensures formed { IsFormed alone.new lists.new }
 {
-    let mut alone = SmallVec::new(alloc);
-    alone.push_reserved(number);
-    let Some(mut others) = lists.insert(hash, alone)? else {
+    if let Some(list) = lists.get_mut(&hash) {
+        list.push(number)?;
+        return Ok(());
+    }
+    let Some(first) = alone.insert(hash, number)? else {
         return Ok(());
     };
-    let pushed = others.push(number);
-    // The hash is there now, so this takes no memory.
-    let _ = lists.insert(hash, others);
-    pushed?;
+    let mut both = SmallVec::new(alloc);
+    both.push_reserved(first);
+    both.push_reserved(number);
+    if lists.insert(hash, both).is_err() {
+        // The hash is there, so this takes no memory.
+        let _ = alone.insert(hash, first);
+        return Err(Memory);
+    }
+    alone.remove(&hash);
     Ok(())
 }
 
-fn numbers_under(lists: &BTreeMap<u64, Numbers>, hash: u64) -> &[usize]
-    ensures { result.now ≡ numbers_at lists.now hash }
+fn numbers_under<'a>(
+    alone: &'a BTreeMap<u64, usize>,
+    lists: &'a BTreeMap<u64, Numbers>,
+    hash: u64,
+) -> &'a [usize]
+    ensures { result.now ≡ numbers_at alone.now lists.now hash }
 {
-    match lists.get(&hash) {
-        Some(list) => list.as_slice(),
-        None => &[],
+    match alone.get(&hash) {
+        Some(number) => slice::from_ref(number),
+        None => match lists.get(&hash) {
+            Some(list) => list.as_slice(),
+            None => &[],
+        },
     }
 }
 
-fn unlist_number(lists: &mut BTreeMap<u64, Numbers>, hash: u64, number: usize)
-    requires { Contains (numbers_at lists.old hash) number }
-    ensures taken { TakesOne number (numbers_at lists.old hash) (numbers_at lists.new hash) }
-    ensures others { (other : ℕ) → (other ≡ hash → ⊥) → numbers_at lists.new other ≡ numbers_at lists.old other }
-    ensures full { AreFull lists.old → AreFull lists.new }
+fn unlist_number(
+    alone: &mut BTreeMap<u64, usize>,
+    lists: &mut BTreeMap<u64, Numbers>,
+    hash: u64,
+    number: usize,
+)
+    requires formed { IsFormed alone.old lists.old }
+    requires there { Contains (numbers_at alone.old lists.old hash) number }
+    ensures taken { TakesOne number (numbers_at alone.old lists.old hash) (numbers_at alone.new lists.new hash) }
+    ensures others { AreSameBut hash (numbers_at alone.old lists.old) (numbers_at alone.new lists.new) }
+    ensures formed { IsFormed alone.new lists.new }
 {
-    if numbers_under(lists, hash).len() == 1 {
+    if alone.remove(&hash).is_some() {
+        return;
+    }
+    if numbers_under(alone, lists, hash).len() == 1 {
         lists.remove(&hash);
         return;
     }

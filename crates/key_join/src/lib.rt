@@ -5,8 +5,6 @@ mod common;
 mod fixed;
 mod least;
 mod list;
-#[cfg(test)]
-mod tests;
 
 pub use common::next_common;
 pub use list::ListOp;

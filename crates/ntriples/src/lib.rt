@@ -4,8 +4,6 @@
 mod grammar;
 mod place;
 mod terminal;
-#[cfg(test)]
-mod tests;
 
 ghost use Rattle.std.specs.Prelude.{◌≡◌, ◌≤◌, length, Some, None, IfErr, IfOk, OnErr};
 ghost use Rattle.ntriples_model.specs.Line.{said};

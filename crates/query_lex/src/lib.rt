@@ -8,8 +8,6 @@ mod gap;
 mod lexer;
 mod state;
 mod step;
-#[cfg(test)]
-mod tests;
 mod token;
 
 pub use lexer::Lexer;

@@ -6,8 +6,6 @@ mod choice;
 mod columns;
 mod patterns;
 mod query;
-#[cfg(test)]
-mod tests;
 
 pub use choice::choose;
 pub use columns::{Column, Columns};

@@ -17,8 +17,6 @@ mod reader;
 mod role;
 mod sound;
 mod term;
-#[cfg(test)]
-mod tests;
 
 pub use fault::ReadFault;
 pub use reader::read;

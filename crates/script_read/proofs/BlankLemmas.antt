@@ -23,10 +23,10 @@ pub keep_end : (line : List ℕ) (i : ℕ) → i < length line → is_blank (get
 keep_end line i h e = ap (λ l. reverse (after_blanks l)) (last_byte line i h) ∙ rw e (ap reverse (sym (last_byte line i h)) ∙ reverse-reverse (take (i + 1) line))
 
 -- a byte is a blank, or none of these
-abbrev blanks : List ℕ
+abbrev pub blanks : List ℕ
 blanks = 32 ∷ 9 ∷ []
 
-is_one : (b : ℕ) → is_blank b ≡ is_in blanks b
+pub is_one : (b : ℕ) → is_blank b ≡ is_in blanks b
 unfolding is_in
 is_one b = sym (ap (λ z. b == 32 || z) (or_none (b == 9))) where
   or_none : (a : Bool) → (a || false) ≡ a

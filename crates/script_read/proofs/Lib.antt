@@ -1,2 +1,3 @@
 pub mod BlankLemmas
 pub mod ScriptLemmas
+pub mod WordLemmas

@@ -1,17 +1,24 @@
 -- The form that a command names.
-use Rattle.std.specs.Prelude.{ℕ, List, reverse}
+use Rattle.std.specs.Prelude.{ℕ, Bool, List, Option, Some, None, if◌then◌else◌, reverse}
 use Rattle.text_lines.specs.Blanks.{after_blanks}
-use Rattle.script_model.specs.Commands.{Form, Begins, Whole, Triples, Question, Inserts, Deletes, Dump as dump_form, Stats as stats_form, Shape as shape_form}
+use Rattle.script_model.specs.Commands.{Form, Begins, Whole, Triples, Question, Inserts, Deletes, File, Generate as generate_form, Dump as dump_form, Stats as stats_form, Shape as shape_form}
 use Rattle.script_read.specs.declared.form.Command.{Command}
-use Rattle.script_read.specs.declared.form.Command.TheVariants.{Insert, Delete, Query, Dump, Stats, Shape}
+use Rattle.script_read.specs.declared.form.Command.TheVariants.{Insert, Delete, Query, Load, Unload, Stats, Shape, Dump, Generate}
+
+-- the bytes, where this holds of them
+abbrev pub some_where : Bool → List ℕ → Option (List ℕ)
+some_where holds bytes = if holds then Some bytes else None
 
 abbrev pub form_meant : Command → Form
 form_meant Insert = Begins (Triples Inserts)
 form_meant Delete = Begins (Triples Deletes)
 form_meant Query = Begins Question
-form_meant Dump = Whole dump_form
+form_meant (Load scope name) = Whole (File Inserts scope.now name.now)
+form_meant (Unload scope name) = Whole (File Deletes scope.now name.now)
 form_meant Stats = Whole stats_form
 form_meant Shape = Whole shape_form
+form_meant Dump = Whole dump_form
+form_meant (Generate count salt) = Whole (generate_form count salt)
 
 -- without the blanks that end it
 abbrev pub without_blanks_behind : List ℕ → List ℕ

@@ -1,16 +1,13 @@
 //! What a line outside a block commands. The forms of lines are defined in `script_model`.
-ghost use Rattle.std.specs.Prelude.{◌≡◌, ◌≤◌, drop, length, Some, take};
+ghost use Rattle.std.specs.Prelude.{◌≡◌, Some};
 ghost use Rattle.std.specs.Option.{option_map};
 ghost use Rattle.script_model.specs.Commands as spec;
-ghost use Rattle.text_lines.specs.Blanks.{after_blanks};
-ghost use Rattle.script_model.specs.Commands.{form_of, trimmed};
-ghost use Rattle.script_read.specs.Forms.{form_meant, without_blanks_behind};
+ghost use Rattle.script_model.specs.Commands.{Change, File, Generate, Whole, behind_word, form_behind, form_of, generate_form, load_form, word_of};
+ghost use Rattle.script_read.specs.Forms.{form_meant};
 
+use crate::blanks::{split_word, trim};
 use crate::form::Command;
-use bstr::ByteSlice;
-
-// The bytes that don't count at the ends of a line.
-const BLANKS: &[u8] = b" \t";
+use crate::words::{name, number, scope};
 
 const INSERT: &[u8] = b"INSERT";
 
@@ -24,55 +21,75 @@ const STATS: &[u8] = b"STATS";
 
 const SHAPE: &[u8] = b"SHAPE";
 
-// Where the blanks that begin the line end.
-fn blanks_before(line: &[u8]) -> usize
-    ensures within { result ≤ length line.now }
-    ensures rest { after_blanks line.now ≡ drop result line.now }
+const LOAD: &[u8] = b"LOAD";
+
+const UNLOAD: &[u8] = b"UNLOAD";
+
+const SCOPE: &[u8] = b"SCOPE";
+
+const GENERATE: &[u8] = b"GENERATE";
+
+// How many triples may be generated.
+const MOST_GENERATED: u64 = 500_000_000;
+
+// The scope, empty where there is none, and the name behind the first word of a load.
+fn scope_and_name(text: &[u8]) -> Option<(&str, &str)>
+    ensures { (change : Change) → option_map (λ found. Whole (File change found.0.now found.1.now)) result ≡ load_form change text.now }
 {
-    match line.find_not_byteset(BLANKS) {
-        Some(place) => place,
-        None => line.len(),
+    let (word, rest) = split_word(text);
+    if word != SCOPE {
+        return Some(("", name(text)?));
     }
+    let (word, rest) = split_word(rest);
+    Some((scope(word)?, name(rest)?))
 }
 
-// Where the blanks that end the line begin.
-fn end_before_blanks(line: &[u8]) -> usize
-    ensures within { result ≤ length line.now }
-    ensures rest { without_blanks_behind line.now ≡ take result line.now }
+// The two numbers behind the first word of a GENERATE.
+fn count_and_salt(text: &[u8]) -> Option<(u64, u64)>
+    ensures { option_map (λ found. Whole (Generate found.0 found.1)) result ≡ generate_form text.now }
 {
-    match line.rfind_not_byteset(BLANKS) {
-        Some(place) => place + 1,
-        None => 0,
-    }
+    let (count, salt) = split_word(text);
+    Some((number(count, MOST_GENERATED)?, number(salt, u64::MAX)?))
 }
 
-// The line without the blanks at both ends.
-fn trim(line: &[u8]) -> &[u8]
-    ensures { result.now ≡ trimmed line.now }
+// The command that begins with this word, where it has words behind it.
+fn command_behind<'a>(word: &[u8], text: &'a [u8]) -> Option<Command<'a>>
+    ensures { option_map form_meant result ≡ form_behind word.now text.now }
 {
-    let begun = &line[blanks_before(line)..];
-    &begun[..end_before_blanks(begun)]
+    if word == LOAD {
+        let (scope, name) = scope_and_name(text)?;
+        Some(Command::Load(scope, name))
+    } else if word == UNLOAD {
+        let (scope, name) = scope_and_name(text)?;
+        Some(Command::Unload(scope, name))
+    } else if word == GENERATE {
+        let (count, salt) = count_and_salt(text)?;
+        Some(Command::Generate(count, salt))
+    } else {
+        None
+    }
 }
 
 /// What the line commands, if it has a command form. Blanks at its ends don't count.
-pub fn command(line: &[u8]) -> Option<Command>
+pub fn command(line: &[u8]) -> Option<Command<'_>>
     ensures { option_map form_meant result ≡ form_of (Some line.now) }
 {
-    let words = trim(line);
-    if words == INSERT {
+    let text = trim(line);
+    if text == INSERT {
         Some(Command::Insert)
-    } else if words == DELETE {
+    } else if text == DELETE {
         Some(Command::Delete)
-    } else if words == QUERY {
+    } else if text == QUERY {
         Some(Command::Query)
-    } else if words == DUMP {
+    } else if text == DUMP {
         Some(Command::Dump)
-    } else if words == STATS {
+    } else if text == STATS {
         Some(Command::Stats)
-    } else if words == SHAPE {
+    } else if text == SHAPE {
         Some(Command::Shape)
     } else {
-        None
+        let (word, rest) = split_word(text);
+        command_behind(word, rest)
     }
 }
 

@@ -5,7 +5,7 @@ use tn_io::{Cut, MemSource};
 
 #[test]
 fn commands_of_lines(rt: HostRuntime) {
-    let lines: [(&[u8], Option<Command>); 16] = [
+    let lines: [(&[u8], Option<Command<'static>>); 44] = [
         (b"INSERT", Some(Command::Insert)),
         (b" \tINSERT\t ", Some(Command::Insert)),
         (b"DELETE", Some(Command::Delete)),
@@ -22,6 +22,49 @@ fn commands_of_lines(rt: HostRuntime) {
         (b"\xef\xbb\xbfDUMP", None),
         (b"DUMP\x0b", None),
         (b"# DUMP", None),
+        (b"LOAD a.nt", Some(Command::Load("", "a.nt"))),
+        (
+            b"\tUNLOAD \t my file.nt ",
+            Some(Command::Unload("", "my file.nt")),
+        ),
+        (b"LOAD SCOPEs", Some(Command::Load("", "SCOPEs"))),
+        (b"LOAD scope a f", Some(Command::Load("", "scope a f"))),
+        (b"LOAD SCOPE a f", Some(Command::Load("a", "f"))),
+        (
+            b"UNLOAD SCOPE\tA9 \tmy file",
+            Some(Command::Unload("A9", "my file")),
+        ),
+        (
+            b"LOAD SCOPE SCOPE SCOPE",
+            Some(Command::Load("SCOPE", "SCOPE")),
+        ),
+        (b"LOAD \xc3\xa9.nt", Some(Command::Load("", "\u{e9}.nt"))),
+        (b"LOAD", None),
+        (b"LOADa.nt", None),
+        (b"load a.nt", None),
+        (b"LOAD SCOPE", None),
+        (b"LOAD SCOPE a", None),
+        (b"LOAD SCOPE a-b f", None),
+        (b"LOAD \xff.nt", None),
+        (b"UNLOAD SCOPE \xc3\xa9 f", None),
+        (b"GENERATE 4 1", Some(Command::Generate(4, 1))),
+        (
+            b"GENERATE\t0 \t18446744073709551615",
+            Some(Command::Generate(0, u64::MAX)),
+        ),
+        (
+            b"GENERATE 00000000000500000000 0",
+            Some(Command::Generate(500_000_000, 0)),
+        ),
+        (b"GENERATE 500000001 1", None),
+        (b"GENERATE 1 18446744073709551616", None),
+        (b"GENERATE 000000000000000000001 1", None),
+        (b"GENERATE 1", None),
+        (b"GENERATE 1 2 3", None),
+        (b"GENERATE +1 2", None),
+        (b"GENERATE 1 -2", None),
+        (b"GENERATE 1,2", None),
+        (b"GENERATE", None),
     ];
     for (line, want) in lines {
         assert_eq!(rt; command(line), want);

@@ -5,8 +5,6 @@
 
 mod cases;
 mod fixed;
-#[cfg(test)]
-mod tests;
 mod totals;
 
 pub use cases::{CASES, Case, order};

@@ -1,5 +1,6 @@
--- What is known of standard input and output: no bytes, and how often they failed.
+-- What is known of standard input, standard output and the file system: no bytes, and how often they failed.
 use Rattle.std.specs.Prelude.{ℕ}
+use Rattle.tentris_cli.specs.declared.disk.Disk.{Disk}
 use Rattle.tentris_cli.specs.declared.standard.Input.{Input}
 use Rattle.tentris_cli.specs.declared.standard.Output.{Output}
 
@@ -8,3 +9,6 @@ input_faults s = s.faults
 
 abbrev pub output_faults : {W : Type 0} → Output W → ℕ
 output_faults s = s.faults
+
+abbrev pub disk_faults : Disk → ℕ
+disk_faults s = s.faults

@@ -7,7 +7,10 @@ ghost use Rattle.std.specs.Vec.Iter.{into_iter_items};
 ghost use Rattle.tentris_cli.specs.Complaints.{line_of};
 ghost use Rattle.tentris_cli.specs.Words.{status_of};
 
+mod disk;
 mod standard;
+#[cfg(test)]
+mod tests;
 
 use graph_store::Store;
 use standard::{Input, Output};

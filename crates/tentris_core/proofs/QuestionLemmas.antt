@@ -11,7 +11,8 @@ use Rattle.bag_model.specs.Answers as bag
 use Rattle.bag_model.specs.Answers.{same_row, first_places}
 use Rattle.bag_model.specs.Listings.{Listing, MayGive}
 use Rattle.bag_model.specs.Solutions.{row_of}
-use Rattle.solution_model.specs.Answers.{IsAnswerTo, chosen_rows}
+use Rattle.solution_model.specs.Answers.{IsAnswerTo, chosen_rows, sorted_answer}
+use Rattle.solution_model.specs.AnswerLaws.{sorted_answers}
 use Rattle.solution_model.specs.Rows.{Row, column_labels, solutions, all_rows}
 use Rattle.script_model.specs.Commands as script
 use Rattle.run_model.specs.Answers as model
@@ -25,7 +26,7 @@ use Rattle.tentris_core.specs.declared.question.Question.TheVariants.{Text, Refu
 use Rattle.tentris_core.specs.declared.outcome.Outcome.{Outcome}
 use Rattle.tentris_core.specs.Puts.{WritesAnswer}
 use Rattle.line_batch.specs.Sound.{IsSound}
-use Rattle.tentris_core.specs.Carrying.{Around, Carries}
+use Rattle.line_batch.specs.Carrying.{Around, Carries}
 use Rattle.tentris_core.specs.Questions.{IsGathered, IsFault, AnswersQuestion}
 use Rattle.std.proofs.Common.{◌≡◌, ◌∙◌, ℕ, ◌+◌, ◌<◌, ◌≤◌, not, ◌&&◌, ◌||◌, ◌==◌, Bool, true, false, cond, List, [], ◌∷◌, ◌++◌, length, refl, sym, ap, subst, arith, append_assoc, length-append}
 use Rattle.std.specs.Prelude.{Option, Some, None, nat_le, if◌then◌else◌}
@@ -191,6 +192,21 @@ module _ (A : Around) (s : State) (body : List Line) (sound : IsSound A.mixed s)
   } where
     clash : false ≡ true → ⊥
     clash c = let f : ⊥ = cc in f
+
+  -- the sorted rows of a query
+  pub sorted_question : (text : List ℕ) (q : Query) (before now : Option (List ℕ)) (outcome : Outcome) → question_of body ≡ Some text → query_of text ≡ meaning.IsQuery q
+      → WritesAnswer before now outcome (model.Listed q.columns (sorted_answer q (graph s))) → AnswersQuestion A body s before now outcome
+  sorted_question text q before now outcome e reads w = record {
+    answer = model.Listed q.columns (sorted_answer q (graph s));
+    carries = record {
+      step = steps.done (script.Block script.Question body) (graph s) (model.Listed q.columns (sorted_answer q (graph s))) (ap question_refusal e ∙ ap fault_refusal reads)
+          (refl, record { text = text; short = e; q = q; reads = reads; rows = sorted_answer q (graph s); answers = sorted_answers q (graph s); in_order = λ _. refl; is = refl });
+      refused = λ c. let f : ⊥ = cc in absurd f;
+      sound = sound;
+      max = refl;
+    };
+    writes = w;
+  }
 
 -- Widths of rows
 

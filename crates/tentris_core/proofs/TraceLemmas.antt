@@ -5,7 +5,8 @@ use Rattle.run_model.specs.Answers.{answer_text, is_refused}
 use Rattle.run_model.specs.Steps.{Event, Run, commands_in, text_of, some_refused}
 use Rattle.run_model.specs.Worlds.{Config}
 use Rattle.graph_store.specs.State.{State}
-use Rattle.tentris_core.specs.Carrying.{Around, StoreEvent, config_in, world_in, event_in, events_in, Carries, CarriesAll, RunsOver}
+use Rattle.line_batch.specs.Carrying.{Around, config_in, world_in, Carries}
+use Rattle.tentris_core.specs.Carrying.{StoreEvent, event_in, events_in, CarriesAll, RunsOver}
 
 module _ (A : Around) where
   -- one more command of a run

@@ -1,8 +1,10 @@
 pub mod Puts
 pub mod Seen
 pub mod Carrying
+pub mod Traffic
 pub mod Questions
 pub mod Places
 pub mod Runs
+pub mod Called
 pub mod Codes
 pub mod Endings

@@ -5,6 +5,6 @@ mod block;
 mod outcome;
 mod question;
 mod running;
-mod settings;
+mod tools;
 
-pub use running::{MAX_BYTES, Status, run};
+pub use running::{Status, run};

@@ -5,7 +5,5 @@ mod dict;
 mod joined;
 mod place;
 mod places;
-#[cfg(test)]
-mod tests;
 
 pub use dict::Dict;

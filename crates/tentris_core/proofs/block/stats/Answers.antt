@@ -9,5 +9,5 @@ use Rattle.tentris_core.proofs.BlockLemmas.{answer_step}
 use Rattle.tentris_core.proofs.block.stats.Goals as goal
 
 pub returns : goal.returns
-returns g c = λ A sound. answer_step A c.args.store.now script.Stats (answer_of (answer.Counted c.stats.result)) sound
-    (λ i. Counted (record { triples = c.stats.ensures.triples i; terms = c.stats.ensures.terms i; two = c.stats.ensures.two i; one = c.stats.ensures.one i })) refl
+returns g c = λ A sound. answer_step A c.args.store.now script.Stats (answer_of (answer.Counted c.stats.result)) sound refl
+    (refl, λ i. Counted (record { triples = c.stats.ensures.triples i; terms = c.stats.ensures.terms i; two = c.stats.ensures.two i; one = c.stats.ensures.one i })) refl

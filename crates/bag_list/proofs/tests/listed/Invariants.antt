@@ -1,4 +1,0 @@
-use Rattle.bag_list.proofs.tests.listed.Given as goal
-
-abbrev pub ghosts-values : goal.ghosts-values
-ghosts-values a = record { name = a.blank.name; parts = a.blank.parts }

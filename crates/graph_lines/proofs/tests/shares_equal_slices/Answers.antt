@@ -1,5 +1,0 @@
-use Rattle.graph_lines.proofs.TriedLemmas.{objects_once}
-use Rattle.graph_lines.proofs.tests.shares_equal_slices.Goals as goal
-
-pub lines_of-requires-clause-once : goal.lines_of-requires-clause-once
-lines_of-requires-clause-once g c = objects_once

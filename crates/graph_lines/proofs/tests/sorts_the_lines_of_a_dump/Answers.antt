@@ -1,8 +1,0 @@
-use Rattle.graph_lines.proofs.TriedLemmas.{three_once, alone_once}
-use Rattle.graph_lines.proofs.tests.sorts_the_lines_of_a_dump.Goals as goal
-
-pub lines_of-requires-clause-once : goal.lines_of-requires-clause-once
-lines_of-requires-clause-once g c = three_once
-
-pub lines_of-requires-2-clause-once : goal.lines_of-requires-2-clause-once
-lines_of-requires-2-clause-once g c = alone_once

@@ -1,0 +1,32 @@
+use Rattle.std.proofs.Common.{rules, arith, ◌∙◌, ap, subst}
+use Rattle.std.proofs.lemmas.Result.{err_from_is_err_and}
+use Rattle.std.specs.Io.KnownBytes.{append_known}
+use Rattle.tn_io.specs.Known.{Begins}
+use Rattle.tn_io.specs.OutText.{all_put}
+use Rattle.run_model.specs.Answers.{line_text}
+use Rattle.tn_io.proofs.KnownLemmas.{begins_self, begins_trans}
+use Rattle.answer_text.proofs.PutLemmas.{put_more, put_cut}
+use Rattle.sorted_rows.proofs.order.put_lines.Goals as goal
+
+pub loop-line-init : goal.loop-line-init
+loop-line-init g c = record { same_sink = search rules; put = search rules; grows = begins_self _; faults = search rules }
+
+pub loop-line-preserved : goal.loop-line-preserved
+loop-line-preserved g c = record {
+  same_sink = c.in_ok-put_line.ensures.same_sink ∙ c.loop-line.invariant.same_sink;
+  put = put_more line_text _ _ _ c.args.lines.now c.loop-line.line-index c.line-item.result (omega arith) c.loop-line.invariant.put
+      (c.in_ok-put_line.ensures.put.put ∙ ap (λ t. append_known (all_put g.K.Sink.written c.loop-line.out) (line_text t)) c.line-item.is);
+  grows = begins_trans _ _ _ c.loop-line.invariant.grows c.in_ok-put_line.ensures.put.grows;
+  faults = search rules;
+}
+
+pub returns-in_err-put_line-clause-put : goal.returns-in_err-put_line-clause-put
+returns-in_err-put_line-clause-put g c =
+    let failed = err_from_is_err_and c.from_residual.result c.from_residual.ensures.1 in
+    record {
+      put = rw failed.1 tt;
+      cut = rw failed.1 (put_cut line_text _ _ _ c.args.lines.now c.loop-line.line-index c.line-item.result (omega arith) c.loop-line.invariant.put
+          (subst (λ t. Begins (g.K.Sink.written c.put_line.new.out.sink.now) (append_known (all_put g.K.Sink.written c.loop-line.out) (line_text t))) c.line-item.is c.in_err-put_line.ensures.put.cut));
+      cause = search rules;
+      grows = begins_trans _ _ _ c.loop-line.invariant.grows c.in_err-put_line.ensures.put.grows;
+    }

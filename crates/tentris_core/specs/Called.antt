@@ -67,3 +67,8 @@ abbrev pub EndsCall : words.Answer → Status → (ℕ → ℕ → ℕ → ℕ �
 EndsCall (words.accepts settings) status mixed files s t before now = EndsScript settings status mixed files s t before now
 EndsCall words.shows_help status mixed files s t before now = EndsHelp status s t before now
 EndsCall words.refuses status mixed files s t before now = EndsRefused status s t before now
+
+-- BadWords comes only where the words are refused; there it comes, but for want of memory.
+pub record IsByWords (answer : words.Answer) (status : Status) : Type 0 where
+  pub only : status ≡ BadWords → answer ≡ words.refuses
+  pub refused : answer ≡ words.refuses → (status ≡ BadWords) ⊎ (status ≡ Memory)

@@ -16,7 +16,7 @@ ghost use Rattle.graph_store.specs.State.{State, IsSettled, graph};
 ghost use Rattle.graph_store.specs.Stands.{Stands};
 ghost use Rattle.tentris_core.specs.Traffic.{traffic};
 ghost use Rattle.tentris_core.specs.Runs.{Ends};
-ghost use Rattle.tentris_core.specs.Called.{EndsScript, EndsCall, WritesHelp};
+ghost use Rattle.tentris_core.specs.Called.{EndsScript, EndsCall, IsByWords, WritesHelp};
 ghost use Rattle.tentris_core.specs.Puts.{PassesOn};
 ghost use Rattle.tentris_core.specs.Endings.{Finishes, EndsInBlock, IsShownLast};
 ghost use Rattle.script_read.specs.ScriptState.{at_start};
@@ -323,6 +323,7 @@ pub fn run<M: Mix, F: Files, S: Source, K: Sink, Z: Watch>(
     ensures ends { EndsCall (answer_to (map (λ word. word.now) words.now)) result M.mixed (F.files files.old) store.old store.new
         (traffic (S.left source.old) (K.written sink.old) (Z.shown watch.old) (F.faults files.old))
         (traffic (S.left source.new) (K.written sink.new) (Z.shown watch.new) (F.faults files.new)) }
+    ensures words { IsByWords (answer_to (map (λ word. word.now) words.now)) result }
     ensures settled { IsSettled store.new }
     ensures stands { Stands M.mixed store.new }
     ensures files { F.files files.new ≡ F.files files.old }

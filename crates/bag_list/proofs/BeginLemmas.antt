@@ -70,6 +70,7 @@ module _ {O : Type 0} (depth_of : O → ℕ) (tuples : O → IdSet) (columns : L
     n_values = n_values ∙ sym n-levels;
     keys = λ j f k lt. absurd (omega (arith, lt));
     tried = λ j f lt. absurd (let m = most fresh in omega (arith, lt, m));
+    admitted = λ _ last f none. absurd (omega (arith, none));
   } where
     most : (b : Bool) → 0 + n_fresh b ≤ 1
     most true = omega arith

@@ -5,7 +5,7 @@ use Rattle.std.proofs.lemmas.Bool.{false_from_ne_true}
 use Rattle.std.proofs.lemmas.Bool.Decides.{nat_tests}
 use Rattle.std.proofs.Math.Seq.{take-length}
 use Rattle.std.proofs.lemmas.Cmp.{nat_cmp_total, lists_total}
-use Rattle.std.proofs.lemmas.List.{get_or-take, take-append-drop, length-take-le, drop_all}
+use Rattle.std.proofs.lemmas.List.{get_or-take, take-append-drop, take_more, length-take-le, drop_all}
 use Rattle.std.proofs.lemmas.List.Sorted.{IsPermutation-cons, IsPermutation-trans, IsPermutation-append_comm, IsPermutation-append_left, length_permutation, list_any-IsPermutation}
 use Rattle.std.specs.Cmp.{unsigned_tied}
 use Rattle.std.specs.Cmp.Lexicographic.{slice_cmp}
@@ -19,23 +19,26 @@ use native.Mathlib.Decide.{dec_lt}
 use Rattle.hypertrie_model.specs.IdSets.{IdSet}
 use Rattle.hypertrie_model.specs.Sets.{has, empty, HasDepth}
 use Rattle.hypertrie_model.specs.SetLaws.{and_both, or_cases, or_right, same_test, same_sets, tied-is, tied-itself}
-use Rattle.hypertrie_model.specs.Slices.{at, is_at}
+use Rattle.hypertrie_model.specs.SliceLaws.{has-slice_at_mask}
+use Rattle.hypertrie_model.specs.Slices.{at, is_at, slice_at_mask}
+use Rattle.trie_depth.specs.Operands.{Admits}
 use Rattle.trie_depth.specs.declared.id.Id.{Id}
 use Rattle.bag_model.specs.ListLaws.{any-filter, distinct-filter, same_members}
 use Rattle.bag_model.specs.Solutions.{image, is_solution}
 use Rattle.bag_model.specs.SolutionLaws.{any-solutions, distinct-solutions, exact_assignments, is_assignment, same_assignment, same_element}
 use Rattle.bag_list.specs.declared.level.Level.{Level}
 use Rattle.bag_list.specs.declared.track.Track.{Track}
-use Rattle.bag_list.specs.Labels.{labels_of}
+use Rattle.bag_list.specs.Labels.{labels_of, mask_of, without}
 use Rattle.bag_list.specs.Levels.{agrees, at_key, coming, from_of, is_below, level_labels, to_come, within}
 use Rattle.bag_list.specs.Search.{AreKept, id_solutions, ids_below, numbers}
 use Rattle.bag_list.specs.Tracks.{rests, unfixed}
 use Rattle.bag_list.proofs.ComingLemmas.{coming-all, coming-append}
 use Rattle.bag_list.proofs.GoLemmas.{any-at}
-use Rattle.bag_list.proofs.Images.{at-is_at, is_at-at}
+use Rattle.bag_list.proofs.Images.{at-is_at, has-slice, is_at-at, length-without, mask-none}
 use Rattle.bag_list.proofs.MemberLemmas.{IsMember, all-left, all-members, any-unfixed, below-at}
 use Rattle.bag_list.proofs.Places.{append_none, permutation-equal}
-use Rattle.bag_list.proofs.SearchLemmas.{exact_numbers, labels-small}
+use Rattle.bag_list.proofs.SearchLemmas.{agrees-more, exact_numbers, labels-small, unfixed-more}
+use Rattle.bag_list.proofs.TrackLemmas.{part-deep}
 
 -- a was found among what was to come: with it go those that no telling label tells from it, and none of those that are left
 pub record IsFound (telling : ℕ → Bool) (old new : List (List ℕ)) (a : List ℕ) : Type 0 where
@@ -161,6 +164,22 @@ has-nil H deep some = elim (has H []) as (λ b. has H [] ≡ b → b ≡ true) [
   nil [] e = refl
   nil (x ∷ t) e = absurd (omega (arith, e))
 
+-- what is left at the key of the last label
+slice-deep : (l k : ℕ) (H : IdSet) (ls : List ℕ) → HasDepth (length ls) H → HasDepth (length (without l ls)) (slice_at_mask nat_cmp H (mask_of l ls) k)
+slice-deep l k H ls deep t e =
+    let s = has-slice_at_mask nat_cmp_total nat_cmp-IsAntisymmetric H (mask_of l ls) k t e in
+    ap length (sym s.left) ∙ length-without l ls s.tuple (deep s.tuple s.there)
+
+last-has : (l k : ℕ) (a : List ℕ) → at l a ≡ Some k → (H : IdSet) (ls : List ℕ) → HasDepth (length ls) H → (H ≡ empty nat_cmp → ⊥) → without l ls ≡ [] → (1 ≤ mask_of l ls → Admits H (mask_of l ls) k) → has H (image a ls) ≡ true
+last-has l k a here H ls deep some none admits = elim (dec_lt 0 (mask_of l ls)) as (λ _. has H (image a ls) ≡ true) [
+  | yes lt ↦
+      sym (has-slice l k a here H ls deep) ∙ ap (λ ks. has (slice_at_mask nat_cmp H (mask_of l ls) k) (image a ks)) none
+      ∙ has-nil (slice_at_mask nat_cmp H (mask_of l ls) k) (subst (λ d. HasDepth d (slice_at_mask nat_cmp H (mask_of l ls) k)) (ap length none) (slice-deep l k H ls deep)) (admits (omega (arith, lt)))
+  | no ge ↦
+      let all : ls ≡ [] = sym (mask-none l ls (omega (arith, ge))) ∙ none in
+      ap (λ ks. has H (image a ks)) all ∙ has-nil H (subst (λ d. HasDepth d H) (ap length all) deep) some
+]
+
 solution-places : {O : Type 0} (tuples : O → IdSet) (tracks : List (Track O)) (a : List ℕ) → ((i : ℕ) (t : Track O) → i < length tracks → has (tuples (slice_index_or tracks i t).start.op) (image a (labels_of (slice_index_or tracks i t).start.labels)) ≡ true) → is_solution nat_cmp (rests tuples tracks) a ≡ true
 solution-places tuples [] a each = refl
 solution-places tuples (s ∷ tracks) a each = (λ j. each 0 s (omega arith) j && solution-places tuples tracks a (λ i t lt. each (suc i) t (omega (arith, lt))) j)
@@ -217,16 +236,45 @@ module _ {O : Type 0} (depth_of : O → ℕ) (tuples : O → IdSet) (deep : (o :
         level-any (g ∷ fs) m (suc j) f lt e = or_right (nat_eq m g.label) (list_any (nat_eq m) (level_labels fs)) (level-any fs m j f (omega (arith, lt)) e)
 
   values-solve : is_solution nat_cmp (rests tuples tracks) (numbers values) ≡ true
-  values-solve = solution-places tuples tracks (numbers values) (λ i t lt.
-      let track = kept.patterns i t lt in
-      let x = slice_index_or tracks i t in
-      let p = x.start in
-      let left = track.left (length levels) p (omega arith) in
-      let y = slice_index_or x.parts.items (length levels) p in
-      let labels : labels_of y.labels ≡ [] = left.labels ∙ ap (λ fs. unfixed fs (labels_of p.labels)) (take-length levels) ∙ none-unfixed x track.below in
-      sym (left.image (numbers values) (ap (λ fs. agrees fs (numbers values)) (take-length levels) ∙ values-agree))
-      ∙ ap (λ ls. has (tuples y.op) (image (numbers values) ls)) labels
-      ∙ has-nil (tuples y.op) (subst (λ d. HasDepth d (tuples y.op)) (left.part.deep ∙ ap length labels) (deep y.op)) left.part.some)
+  values-solve = solution-places tuples tracks (numbers values) (λ i t lt. by (length levels) refl i t lt) where
+    -- there is no label
+    at_once : length levels ≡ 0 → (i : ℕ) (t : Track O) → i < length tracks → has (tuples (slice_index_or tracks i t).start.op) (image (numbers values) (labels_of (slice_index_or tracks i t).start.labels)) ≡ true
+    at_once none i t lt =
+        let track = kept.patterns i t lt in
+        let x = slice_index_or tracks i t in
+        let p = x.start in
+        let left = track.left 0 p (omega arith) (omega arith) in
+        let y = slice_index_or x.parts.items 0 p in
+        let labels : labels_of y.labels ≡ [] = left.labels ∙ ap (λ fs. unfixed fs (labels_of p.labels)) (sym (no-levels levels none)) ∙ none-unfixed x track.below in
+        sym (left.image (numbers values) refl)
+        ∙ ap (λ ls. has (tuples y.op) (image (numbers values) ls)) labels
+        ∙ has-nil (tuples y.op) (subst (λ d. HasDepth d (tuples y.op)) (left.part.deep ∙ ap length labels) (deep y.op)) left.part.some where
+          no-levels : (fs : List Level) → length fs ≡ 0 → fs ≡ []
+          no-levels [] e = refl
+          no-levels (f ∷ fs) e = absurd (omega (arith, e))
+
+    -- this label is the last one
+    at_last : (last : ℕ) → length levels ≡ suc last → (i : ℕ) (t : Track O) → i < length tracks → has (tuples (slice_index_or tracks i t).start.op) (image (numbers values) (labels_of (slice_index_or tracks i t).start.labels)) ≡ true
+    at_last last n i t lt =
+        let track = kept.patterns i t lt in
+        let x = slice_index_or tracks i t in
+        let p = x.start in
+        let d : Level = record { label = 0; key = record { 0 = 0 }; from = None } in
+        let f = slice_index_or levels last d in
+        let within : last < length levels = omega (arith, n) in
+        let left = track.left last p (omega (arith, within)) (omega (arith, n)) in
+        let y = slice_index_or x.parts.items last p in
+        let levels_are : levels ≡ take last levels ++ f ∷ [] = sym (take-length levels) ∙ ap (λ m. take m levels) (let e : length levels ≡ last + 1 = omega (arith, n) in e) ∙ take_more levels last d within in
+        let labels : without f.label (labels_of y.labels) ≡ [] = ap (without f.label) left.labels ∙ sym (unfixed-more (take last levels) f (labels_of p.labels)) ∙ ap (λ fs. unfixed fs (labels_of p.labels)) (sym levels_are) ∙ none-unfixed x track.below in
+        let agree : (agrees (take last levels) (numbers values) && is_at nat_cmp f.label f.key.0 (numbers values)) ≡ true = sym (agrees-more (take last levels) f (numbers values)) ∙ ap (λ fs. agrees fs (numbers values)) (sym levels_are) ∙ values-agree in
+        let two = and_both (agrees (take last levels) (numbers values)) (is_at nat_cmp f.label f.key.0 (numbers values)) agree in
+        sym (left.image (numbers values) two.0)
+        ∙ last-has f.label f.key.0 (numbers values) (at-is_at f.label f.key.0 (numbers values) two.1) (tuples y.op) (labels_of y.labels) (part-deep depth_of tuples deep y left.part) left.part.some labels
+        (kept.admitted refl last d (omega (arith, n)) (omega (arith, n)) i t p lt)
+
+    by : (n : ℕ) → length levels ≡ n → (i : ℕ) (t : Track O) → i < length tracks → has (tuples (slice_index_or tracks i t).start.op) (image (numbers values) (labels_of (slice_index_or tracks i t).start.labels)) ≡ true
+    by zero e i t lt = at_once e i t lt
+    by (suc last) e i t lt = at_last last e i t lt
 
   -- the values are the one solution that has the keys of all levels
   one-left : IsPermutation (within (id_solutions (length levels) (rests tuples tracks)) levels) (numbers values ∷ [])

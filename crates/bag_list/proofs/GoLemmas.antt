@@ -37,6 +37,9 @@ module _ {O : Type 0} (depth_of : O → ℕ) (tuples : O → IdSet) (deep : (o :
   last-within : last < length levels
   last-within = let w = kept.within in omega (arith, w)
 
+  before-all : last ≤ length levels - 1
+  before-all = let w = last-within in omega (arith, w)
+
   pub last-small : f.label < length levels
   last-small = subst (λ l. l < length levels) (sym (ap (λ h. h.label) is)) (labels-small levels kept.labels last f last-within)
 
@@ -49,13 +52,13 @@ module _ {O : Type 0} (depth_of : O → ℕ) (tuples : O → IdSet) (deep : (o :
 
   -- some pattern has the last label
   pub last-asked : (i : ℕ) × (i < length tracks) × ((t : Track O) (p : Part O) → 1 ≤ mask_of f.label (labels_of (part_at tracks last i t p).labels))
-  last-asked = label-left depth_of tuples deep (length levels) (last + 1 + 0) last levels tracks kept.patterns (omega arith) f.label (kept.labelled (omega arith)) last-small free
+  last-asked = label-left depth_of tuples deep (length levels) (last + 1 + 0) last levels tracks kept.patterns (omega arith) before-all f.label (kept.labelled (omega arith)) last-small free
 
   -- the key that a solution has there, which all patterns admit
   key-of : (a : List ℕ) → IsMember (length levels) (rests tuples tracks) a × (agrees (take last levels) a ≡ true) → (q : ℕ) × (at f.label a ≡ Some q) × AllAdmitAt tuples tracks last f.label q
   key-of a h =
       let there = at-there f.label a (subst (λ n. f.label < n) (sym h.0.long) last-small) in
-      (there.0, there.1, solution-admits depth_of tuples deep (length levels) (last + 1 + 0) last levels tracks kept.patterns (omega arith) a f.label there.0 h.0.solution h.1 there.1)
+      (there.0, there.1, solution-admits depth_of tuples deep (length levels) (last + 1 + 0) last levels tracks kept.patterns (omega arith) before-all a f.label there.0 h.0.solution h.1 there.1)
 
   -- no key is left
   pub went-back : ((k : ℕ) → from_of f.from ≤ k → AllAdmitAt tuples tracks last f.label k → ⊥) → to_come (id_solutions (length levels) (rests tuples tracks)) (take (last + 1) levels) false ≡ to_come (id_solutions (length levels) (rests tuples tracks)) (take last levels) false
@@ -79,7 +82,7 @@ module _ {O : Type 0} (depth_of : O → ℕ) (tuples : O → IdSet) (deep : (o :
       let q = key-of a h in
       below-at f.label q.0 (from_of f.from) a q.1 ∙ tests q.0 q.2 ∙ sym (below-at f.label q.0 g.key.0 a q.1)) (all-left (length levels) (rests tuples tracks) (take last levels)))
       (λ e. all-weaker _ (λ a. is_at nat_cmp f.label g.key.0 a ≡ false) _ (λ a h. false_from_ne_true _ (λ at_key.
-      stopped e (solution-admits depth_of tuples deep (length levels) (last + 1 + 0) last levels tracks kept.patterns (omega arith) a f.label g.key.0 h.0.solution h.1 (at-is_at f.label g.key.0 a at_key)))) (all-left (length levels) (rests tuples tracks) (take last levels))))) where
+      stopped e (solution-admits depth_of tuples deep (length levels) (last + 1 + 0) last levels tracks kept.patterns (omega arith) before-all a f.label g.key.0 h.0.solution h.1 (at-is_at f.label g.key.0 a at_key)))) (all-left (length levels) (rests tuples tracks) (take last levels))))) where
         tests : (q : ℕ) → AllAdmitAt tuples tracks last f.label q → nat_lt q (from_of f.from) ≡ nat_lt q g.key.0
         tests q admit = elim (dec_lt q (from_of f.from)) as (λ _. nat_lt q (from_of f.from) ≡ nat_lt q g.key.0) [
           | yes lt ↦ (let a : nat_lt q (from_of f.from) ≡ true = grind (arith, nat_tests) in let b : nat_lt q g.key.0 ≡ true = grind (arith, nat_tests) in a ∙ sym b)

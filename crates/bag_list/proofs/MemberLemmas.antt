@@ -1,5 +1,5 @@
 -- The solutions that are left: the keys that they have, and what they are once all labels are fixed.
-use Rattle.std.specs.Prelude.{◌≡◌, ℕ, zero, suc, ◌+◌, ◌<◌, ◌≤◌, ◌^◌, ◌&&◌, ◌||◌, Bool, true, false, not, nat_lt, nat_eq, List, [], ◌∷◌, length, map, take, slice_index_or, refl, Some}
+use Rattle.std.specs.Prelude.{◌≡◌, ℕ, zero, suc, ◌+◌, ◌-◌, ◌<◌, ◌≤◌, ◌^◌, ◌&&◌, ◌||◌, Bool, true, false, not, nat_lt, nat_eq, List, [], ◌∷◌, length, map, take, slice_index_or, refl, Some}
 use Rattle.std.proofs.Common.{◌∙◌, ap, arith}
 use Rattle.std.specs.List.{AllByRecursion, flat_map, list_any, range_with_len}
 use Rattle.std.specs.Ordering.{nat_cmp}
@@ -96,11 +96,11 @@ has-label tuples (s ∷ tracks) l e = or_cases (list_any (nat_eq l) (labels_of s
     (λ here. (0, (let z : 0 < length (s ∷ tracks) = omega arith in z), λ t. here))
     (λ later. let h = has-label tuples tracks l later in (suc h.0, (let lt = h.1 in let z : suc h.0 < length (s ∷ tracks) = omega (arith, lt) in z), h.2))
 
-module _ {O : Type 0} (depth_of : O → ℕ) (tuples : O → IdSet) (deep : (o : O) → HasDepth (depth_of o) (tuples o)) (n m last : ℕ) (levels : List Level) (tracks : List (Track O)) (are : AreTracks depth_of tuples n m levels tracks) (low : last < m) where
+module _ {O : Type 0} (depth_of : O → ℕ) (tuples : O → IdSet) (deep : (o : O) → HasDepth (depth_of o) (tuples o)) (n m last : ℕ) (levels : List Level) (tracks : List (Track O)) (are : AreTracks depth_of tuples n m levels tracks) (low : last < m) (before : last ≤ n - 1) where
   -- a solution that has the keys of the levels has at a further label a key that all patterns admit
   pub solution-admits : (a : List ℕ) (l q : ℕ) → is_solution nat_cmp (rests tuples tracks) a ≡ true → agrees (take last levels) a ≡ true → at l a ≡ Some q → AllAdmitAt tuples tracks last l q
   solution-admits a l q solution agreed at_l i t p lt some =
-      let left = (are i t lt).left last p low in
+      let left = (are i t lt).left last p low before in
       let x = part_at tracks last i t p in
       image-admits l q a at_l (tuples x.op) (labels_of x.labels) (part-deep depth_of tuples deep x left.part)
       (left.image a agreed ∙ solution-at tuples tracks a i t solution lt)
@@ -112,7 +112,7 @@ module _ {O : Type 0} (depth_of : O → ℕ) (tuples : O → IdSet) (deep : (o :
         h.0,
         h.1,
         λ t p.
-            let left = (are h.0 t h.1).left last p low in
+            let left = (are h.0 t h.1).left last p low before in
             mask-some l (labels_of (part_at tracks last h.0 t p).labels)
             (ap (list_any (nat_eq l)) left.labels
             ∙ any-unfixed l (take last levels) (labels_of (slice_index_or tracks h.0 t).start.labels)

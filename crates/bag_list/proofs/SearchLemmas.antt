@@ -1,5 +1,5 @@
 -- A search is kept, step by step.
-use Rattle.std.specs.Prelude.{◌≡◌, ℕ, zero, suc, ◌+◌, ◌<◌, ◌≤◌, ◌^◌, ◌&&◌, Bool, true, false, nat_lt, nat_eq, List, [], ◌∷◌, ◌++◌, length, take, slice_index_or, slice_set, refl}
+use Rattle.std.specs.Prelude.{◌≡◌, ℕ, zero, suc, ◌+◌, ◌-◌, ◌<◌, ◌≤◌, ◌^◌, ◌&&◌, Bool, true, false, nat_lt, nat_eq, List, [], ◌∷◌, ◌++◌, length, take, slice_index_or, slice_set, refl}
 use Rattle.std.proofs.Common.{sym, ◌∙◌, ap, subst, arith}
 use Rattle.std.proofs.Math.Seq.{map-set_same}
 use Rattle.std.proofs.lemmas.Bool.Decides.{nat_tests}
@@ -24,7 +24,7 @@ use Rattle.bag_list.specs.declared.track.Track.{Track}
 use Rattle.bag_list.specs.Labels.{labels_of, without}
 use Rattle.bag_list.specs.Levels.{agrees, from_of, level_labels, n_fresh}
 use Rattle.bag_list.specs.Search.{AreKept, IsTried}
-use Rattle.bag_list.specs.Tracks.{IsFixed, IsLeft, IsSameTo, IsTrack, part_at, rest_of, rests, unfixed}
+use Rattle.bag_list.specs.Tracks.{AdmitsAt, AllAdmitAt, IsFixed, IsLeft, IsSameTo, IsTrack, part_at, rest_of, rests, unfixed}
 use Rattle.bag_list.proofs.Places.{to_next}
 
 -- ---- numbers as labels
@@ -116,27 +116,28 @@ module _ {O : Type 0} (depth_of : O → ℕ) (tuples : O → IdSet) where
   track-levels n m k fs gs t le same is = record {
     room = is.room;
     below = is.below;
-    left = λ j p lt. subst (λ hs. IsLeft depth_of tuples hs t.start (slice_index_or t.parts.items j p)) (sym (same j lt)) (is.left j p (omega (arith, le, lt)));
+    left = λ j p lt before. subst (λ hs. IsLeft depth_of tuples hs t.start (slice_index_or t.parts.items j p)) (sym (same j lt)) (is.left j p (omega (arith, le, lt)) before);
   }
 
   -- a level more
-  track-entered : (n last : ℕ) (fs gs : List Level) (g : Level) (s t : Track O) (b : Bool) → ((j : ℕ) → j ≤ last → take j gs ≡ take j fs) → take (last + 1) gs ≡ take last fs ++ g ∷ [] → IsSameTo last s t → (b ≡ true → (p : Part O) → IsFixed depth_of tuples g.label g.key.0 (slice_index_or s.parts.items last p) (slice_index_or t.parts.items (last + 1) p)) → IsTrack depth_of tuples n (last + 1) fs s → IsTrack depth_of tuples n (last + 1 + n_fresh b) gs t
+  track-entered : (n last : ℕ) (fs gs : List Level) (g : Level) (s t : Track O) (b : Bool) → ((j : ℕ) → j ≤ last → take j gs ≡ take j fs) → take (last + 1) gs ≡ take last fs ++ g ∷ [] → IsSameTo last s t → (b ≡ true → last + 1 ≤ n - 1 → (p : Part O) → IsFixed depth_of tuples g.label g.key.0 (slice_index_or s.parts.items last p) (slice_index_or t.parts.items (last + 1) p)) → IsTrack depth_of tuples n (last + 1) fs s → IsTrack depth_of tuples n (last + 1 + n_fresh b) gs t
   track-entered n last fs gs g s t b same more alike fixed is = record {
     room = alike.room ∙ is.room;
     below = subst (λ x. AllByRecursion (λ l. l < n) (labels_of x.labels)) (sym alike.start) is.below;
-    left = λ j p. elim b as (λ b. (b ≡ true → (p : Part O) → IsFixed depth_of tuples g.label g.key.0 (slice_index_or s.parts.items last p) (slice_index_or t.parts.items (last + 1) p)) → j < last + 1 + n_fresh b → IsLeft depth_of tuples (take j gs) t.start (slice_index_or t.parts.items j p)) [
-      | false ↦ λ _ lt. before j p (omega (arith, lt))
-      | true ↦ λ fixed lt. to_next (last + 1) (λ j. IsLeft depth_of tuples (take j gs) t.start (slice_index_or t.parts.items j p)) (λ j lt. before j p lt)
-          (subst (λ hs. IsLeft depth_of tuples hs t.start (slice_index_or t.parts.items (last + 1) p)) (sym more)
+    left = λ j p. elim b as (λ b. (b ≡ true → last + 1 ≤ n - 1 → (p : Part O) → IsFixed depth_of tuples g.label g.key.0 (slice_index_or s.parts.items last p) (slice_index_or t.parts.items (last + 1) p)) → j < last + 1 + n_fresh b → j ≤ n - 1 → IsLeft depth_of tuples (take j gs) t.start (slice_index_or t.parts.items j p)) [
+      | false ↦ λ _ lt in_all. before j p (omega (arith, lt)) in_all
+      | true ↦ λ fixed lt. to_next (last + 1) (λ j. j ≤ n - 1 → IsLeft depth_of tuples (take j gs) t.start (slice_index_or t.parts.items j p)) (λ j lt. before j p lt)
+          (λ in_all.
+          subst (λ hs. IsLeft depth_of tuples hs t.start (slice_index_or t.parts.items (last + 1) p)) (sym more)
           (subst (λ x. IsLeft depth_of tuples (take last fs ++ g ∷ []) x (slice_index_or t.parts.items (last + 1) p)) (sym alike.start)
-          (left-more (take last fs) g s.start _ _ (is.left last p (omega arith)) (fixed refl p)))) j (omega (arith, lt))
+          (left-more (take last fs) g s.start _ _ (is.left last p (omega arith) (omega (arith, in_all))) (fixed refl in_all p)))) j (omega (arith, lt))
     ] fixed;
   } where
-    before : (j : ℕ) (p : Part O) → j < last + 1 → IsLeft depth_of tuples (take j gs) t.start (slice_index_or t.parts.items j p)
-    before j p lt =
+    before : (j : ℕ) (p : Part O) → j < last + 1 → j ≤ n - 1 → IsLeft depth_of tuples (take j gs) t.start (slice_index_or t.parts.items j p)
+    before j p lt in_all =
         subst (λ hs. IsLeft depth_of tuples hs t.start (slice_index_or t.parts.items j p)) (sym (same j (omega (arith, lt))))
         (subst (λ x. IsLeft depth_of tuples (take j fs) x (slice_index_or t.parts.items j p)) (sym alike.start)
-        (subst (λ q. IsLeft depth_of tuples (take j fs) s.start q) (sym (alike.parts j p (omega (arith, lt)))) (is.left j p lt)))
+        (subst (λ q. IsLeft depth_of tuples (take j fs) s.start q) (sym (alike.parts j p (omega (arith, lt)))) (is.left j p lt in_all)))
 
 -- the same starts give the same patterns
 pub rests-same : {O : Type 0} (tuples : O → IdSet) (ss ts : List (Track O)) → length ts ≡ length ss → ((i : ℕ) (t : Track O) → i < length ss → (slice_index_or ts i t).start ≡ (slice_index_or ss i t).start) → rests tuples ts ≡ rests tuples ss
@@ -218,6 +219,7 @@ module _ {O : Type 0} (depth_of : O → ℕ) (tuples : O → IdSet) (telling : �
             (λ j low. subst (λ h. slice_index_or values h.label k ≡ h.key) (sym (opened-before levels depth i f le lt j g low)) (kept.keys j g k low))
             (subst (λ h. slice_index_or values h.label k ≡ h.key) (sym (opened-at levels depth i f le lt g)) (key k)) j;
         tried = λ j g low. subst IsTried (sym (opened-before levels depth i f le lt j g (omega (arith, low)))) (kept.tried j g (omega (arith, low)));
+        admitted = λ e. absurd (let f : ⊥ = cc in f);
       } where
         moved : nat_lt depth told ≡ nat_lt i told
         moved = elim (dec_lt depth told) as (λ _. nat_lt depth told ≡ nat_lt i told) [
@@ -237,11 +239,12 @@ module _ {O : Type 0} (depth_of : O → ℕ) (tuples : O → IdSet) (telling : �
     n_values = kept.n_values;
     keys = λ j f d lt. kept.keys j f d (omega (arith, lt, le_m));
     tried = λ j f lt. kept.tried j f (omega (arith, lt, le));
+    admitted = λ e. absurd (let f : ⊥ = cc in f);
   }
 
   -- the last label has its next key
-  pub kept-entered : (last : ℕ) (g : Level) (now : List (Track O)) (fresh : Bool) → AreKept depth_of tuples telling levels (last + 1) false told tracks values → ((f : Level) → g.label ≡ (slice_index_or levels last f).label) → from_of g.from ≡ g.key.0 + 1 → g.key.0 < 2 ^ 32 → length now ≡ length tracks → ((i : ℕ) (t : Track O) → i < length tracks → IsSameTo last (slice_index_or tracks i t) (slice_index_or now i t)) → (fresh ≡ true → (i : ℕ) (t : Track O) (p : Part O) → i < length tracks → IsFixed depth_of tuples g.label g.key.0 (part_at tracks last i t p) (part_at now (last + 1) i t p)) → AreKept depth_of tuples telling (slice_set levels last g) (last + 1) fresh told now (slice_set values g.label g.key)
-  kept-entered last g now fresh kept label next small n_now same fixed =
+  pub kept-entered : (last : ℕ) (g : Level) (now : List (Track O)) (fresh : Bool) → AreKept depth_of tuples telling levels (last + 1) false told tracks values → ((f : Level) → g.label ≡ (slice_index_or levels last f).label) → from_of g.from ≡ g.key.0 + 1 → g.key.0 < 2 ^ 32 → length now ≡ length tracks → ((i : ℕ) (t : Track O) → i < length tracks → IsSameTo last (slice_index_or tracks i t) (slice_index_or now i t)) → (fresh ≡ true → last + 1 ≤ length levels - 1 → (i : ℕ) (t : Track O) (p : Part O) → i < length tracks → IsFixed depth_of tuples g.label g.key.0 (part_at tracks last i t p) (part_at now (last + 1) i t p)) → AllAdmitAt tuples tracks last g.label g.key.0 → AreKept depth_of tuples telling (slice_set levels last g) (last + 1) fresh told now (slice_set values g.label g.key)
+  kept-entered last g now fresh kept label next small n_now same fixed admit =
       let long = length-set levels last g in
       let w = kept.within in
       let within : last < length levels = omega (arith, w) in
@@ -254,7 +257,7 @@ module _ {O : Type 0} (depth_of : O → ℕ) (tuples : O → IdSet) (telling : �
         told_within = let n = kept.told_within in omega (arith, n, long);
         patterns = λ i t lt. subst (λ n. IsTrack depth_of tuples n (last + 1 + n_fresh fresh) (slice_set levels last g) (slice_index_or now i t)) (sym long)
             (let lt_old : i < length tracks = omega (arith, lt, n_now) in
-            track-entered depth_of tuples (length levels) last levels (slice_set levels last g) g (slice_index_or tracks i t) (slice_index_or now i t) fresh (λ j le. take-set-le j levels last g le) (take_more_set levels last g within) (same i t lt_old) (λ e p. fixed e i t p lt_old)
+            track-entered depth_of tuples (length levels) last levels (slice_set levels last g) g (slice_index_or tracks i t) (slice_index_or now i t) fresh (λ j le. take-set-le j levels last g le) (take_more_set levels last g within) (same i t lt_old) (λ e before p. fixed e before i t p lt_old)
             (track-levels depth_of tuples (length levels) (last + 1 + 0) (last + 1) levels levels (slice_index_or tracks i t) (omega arith) (λ j _. refl) (kept.patterns i t lt_old)));
         labelled = λ _. subst (λ n. HaveLabels nat_cmp n (rests tuples now)) (sym long) (subst (HaveLabels nat_cmp (length levels)) (sym starts) (kept.labelled (omega arith)));
         n_values = length-set values g.label g.key ∙ kept.n_values ∙ sym long;
@@ -271,6 +274,12 @@ module _ {O : Type 0} (depth_of : O → ℕ) (tuples : O → IdSet) (telling : �
               subst (λ i. IsTried (slice_index_or (slice_set levels last g) i f)) is
               (subst IsTried (sym (get_or-set_same levels last g f within)) (omega (arith, next), small))
         ];
+        admitted = λ _ end f is _ i t p lt.
+            let same_end : last ≡ end = omega (arith, is) in
+            subst (λ e. AdmitsAt tuples (slice_index_or (slice_set levels last g) e f).label (part_at now e i t p) (slice_index_or (slice_set levels last g) e f).key.0) same_end
+            (subst (λ h. AdmitsAt tuples h.label (part_at now last i t p) h.key.0) (sym (get_or-set_same levels last g f within))
+            (let lt_old : i < length tracks = omega (arith, lt, n_now) in
+            subst (λ q. AdmitsAt tuples g.label q g.key.0) (sym ((same i t lt_old).parts last p (omega arith))) (admit i t p lt_old)));
       } where
         fresh_most : (b : Bool) → n_fresh b ≤ 1
         fresh_most true = omega arith

@@ -37,7 +37,7 @@ module _ {O : Type 0} (depth_of : O → ℕ) (tuples : O → IdSet) (n : ℕ) (s
   start-track t at_start room parts fs = record {
     room = room;
     below = subst (AllByRecursion (λ l. l < n)) (sym (ap (λ q. labels_of q.labels) at_start ∙ labels)) start.below;
-    left = λ j q low. let first : 0 ≡ j = omega (arith, low) in
+    left = λ j q low _. let first : 0 ≡ j = omega (arith, low) in
         subst (λ j. IsLeft depth_of tuples (take j fs) t.start (slice_index_or t.parts.items j q)) first
         (subst (λ x. IsLeft depth_of tuples [] t.start x) (sym (parts 0 q (omega arith)))
         (subst (λ x. IsLeft depth_of tuples [] x (record { op = o; labels = ls })) (sym at_start)

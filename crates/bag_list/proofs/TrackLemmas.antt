@@ -17,7 +17,7 @@ use Rattle.bag_list.specs.declared.track.Part.{Part}
 use Rattle.bag_list.specs.declared.track.Track.{Track}
 use Rattle.bag_list.specs.Labels.{placed, labels_of, mask_of, without}
 use Rattle.bag_list.specs.Tracks.{AdmitsAt, AllAdmitAt, IsFixed, IsPart, IsSameTo, part_at}
-use Rattle.std.proofs.lemmas.List.{get_or_default, get_or-set_same, get_or-set_other, take_more_set, length-take-le}
+use Rattle.std.proofs.lemmas.List.{get_or_append_left, get_or_default, get_or_push, get_or-set_same, get_or-set_other, take_more_set, length-append, length-take-le}
 use Rattle.std.specs.Prelude.{slice_set}
 use native.Mathlib.Decide.{dec_lt}
 use Rattle.bag_list.proofs.Images.{has-slice, at-is_at, mask-fits, positions-left}
@@ -74,6 +74,7 @@ pub record AreGathered {O : Type 0} (depth_of : O → ℕ) (tuples : O → IdSet
   pub within : count ≤ i
   pub fit : AllFit depth_of (take count ops) (take count masks)
   pub asked : (k : ℕ) → ((j : ℕ) (t : Track O) (p : Part O) → j < i → AdmitsAt tuples l (part_at tracks depth j t p) k) → AllAdmit tuples (take count ops) (take count masks) k
+  pub whole : (k : ℕ) → AllAdmit tuples (take count ops) (take count masks) k → (j : ℕ) (t : Track O) (p : Part O) → j < i → AdmitsAt tuples l (part_at tracks depth j t p) k
   pub some : (j : ℕ) → j < i → ((t : Track O) (p : Part O) → 1 ≤ mask_of l (labels_of (part_at tracks depth j t p).labels)) → 1 ≤ count
 
 module _ {O : Type 0} where
@@ -125,6 +126,9 @@ module _ {O : Type 0} (depth_of : O → ℕ) (tuples : O → IdSet) (tracks : Li
     asked = λ k admit j o n. subst (λ xs. j < length xs → Admits (tuples (slice_index_or xs j o)) (slice_index_or (take (count + 1) (slice_set masks count m)) j n).0 k) (sym ops_more)
         (subst (λ ys. j < length (take count ops ++ q.op ∷ []) → Admits (tuples (slice_index_or (take count ops ++ q.op ∷ []) j o)) (slice_index_or ys j n).0 k) (sym masks_more)
         (both_more (λ o n. Admits (tuples o) n.0 k) (take count ops) (take count masks) q.op m taken (before.asked k (λ j t p low. admit j t p (omega (arith, low)))) (λ none. none_left k admit none) j o n));
+    whole = λ k admit j t p. to_next i (λ j. AdmitsAt tuples l (part_at tracks depth j t p) k)
+        (λ j low. before.whole k (front k admit) j t p low)
+        (subst (λ z. AdmitsAt tuples l z k) (sym (is t p)) (λ some. subst (λ b. Admits (tuples q.op) b k) mask (last k admit))) j;
     some = λ j low e. omega arith;
   } where
     ops_more : take (count + 1) (slice_set ops count q.op) ≡ take count ops ++ q.op ∷ []
@@ -132,6 +136,25 @@ module _ {O : Type 0} (depth_of : O → ℕ) (tuples : O → IdSet) (tracks : Li
 
     masks_more : take (count + 1) (slice_set masks count m) ≡ take count masks ++ m ∷ []
     masks_more = take_more_set masks count m (omega (arith, lt, long))
+
+    n_taken : length (take count ops) ≡ count
+    n_taken = length-take-le count ops (omega (arith, lt))
+
+    n_masks : length (take count masks) ≡ count
+    n_masks = length-take-le count masks (omega (arith, lt, long))
+
+    -- those that were taken before, and this one
+    front : (k : ℕ) → AllAdmit tuples (take (count + 1) (slice_set ops count q.op)) (take (count + 1) (slice_set masks count m)) k → AllAdmit tuples (take count ops) (take count masks) k
+    front k admit j o n low =
+        subst (λ z. Admits (tuples z) (slice_index_or (take count masks) j n).0 k) (ap (λ xs. slice_index_or xs j o) ops_more ∙ get_or_append_left (take count ops) (q.op ∷ []) o j low)
+        (subst (λ z. Admits (tuples (slice_index_or (take (count + 1) (slice_set ops count q.op)) j o)) z.0 k) (ap (λ ys. slice_index_or ys j n) masks_more ∙ get_or_append_left (take count masks) (m ∷ []) n j (omega (arith, low, n_taken, n_masks)))
+        (admit j o n (let more = ap length ops_more ∙ length-append (take count ops) (q.op ∷ []) in omega (arith, more, low))))
+
+    last : (k : ℕ) → AllAdmit tuples (take (count + 1) (slice_set ops count q.op)) (take (count + 1) (slice_set masks count m)) k → Admits (tuples q.op) m.0 k
+    last k admit =
+        subst (λ z. Admits (tuples z) m.0 k) (ap (λ xs. slice_index_or xs count q.op) ops_more ∙ get_or_push (take count ops) q.op q.op count n_taken)
+        (subst (λ z. Admits (tuples (slice_index_or (take (count + 1) (slice_set ops count q.op)) count q.op)) z.0 k) (ap (λ ys. slice_index_or ys count m) masks_more ∙ get_or_push (take count masks) m m count n_masks)
+        (admit count q.op m (let more = ap length ops_more ∙ length-append (take count ops) (q.op ∷ []) in omega (arith, more, n_taken))))
 
     taken : length (take count ops) ≡ length (take count masks)
     taken = length-take-le count ops (omega (arith, lt)) ∙ sym (length-take-le count masks (omega (arith, lt, long)))
@@ -152,6 +175,8 @@ module _ {O : Type 0} (depth_of : O → ℕ) (tuples : O → IdSet) (tracks : Li
     within = let w = before.within in omega (arith, w);
     fit = before.fit;
     asked = λ k admit. before.asked k (λ j t p low. admit j t p (omega (arith, low)));
+    whole = λ k admit j t p. to_next i (λ j. AdmitsAt tuples l (part_at tracks depth j t p) k) (λ j low. before.whole k admit j t p low)
+        (subst (λ z. AdmitsAt tuples l z k) (sym (is t p)) (λ some. absurd (omega (arith, none, mask, some)))) j;
     some = to_next i (λ j. ((t : Track O) (p : Part O) → 1 ≤ mask_of l (labels_of (part_at tracks depth j t p).labels)) → 1 ≤ count) before.some
         (λ e. absurd (let here : 1 ≤ mask_of l (labels_of q.labels) = subst (λ z. 1 ≤ mask_of l (labels_of z.labels)) (is x q) (e x q) in omega (arith, none, mask, here)));
   }
@@ -171,6 +196,11 @@ module _ {O : Type 0} (depth_of : O → ℕ) (tuples : O → IdSet) (deep : (o :
       let p = element (slice_index_or tracks some.0 t).parts.items depth (room some.0 t some.1) in
       let lt = admitted-small depth_of tuples deep small l k (part_at tracks depth some.0 t p) (parts some.0 t p some.1) (some.2 t p) (admit some.0 t p some.1) in
       omega (arith, le, lt)
+
+-- what is said of a key that was found says more
+pub weaker_found : (r : Option Id) (P Q : ℕ → Type 0) → ((k : ℕ) → P k → Q k) → IfSome r (λ r. P r.0) → IfSome r (λ r. Q r.0)
+weaker_found None P Q into h = tt
+weaker_found (Some r) P Q into h = into r.0 h
 
 -- the least key of which less holds, from the same number on
 pub weaker_least : (r : Option Id) (a b : ℕ) (P Q : ℕ → Type 0) → a ≡ b → ((k : ℕ) → Q k → P k) → IfSome r (λ r. (k : ℕ) → b ≤ k → k < r.0 → P k → ⊥) → IfSome r (λ r. (k : ℕ) → a ≤ k → k < r.0 → Q k → ⊥)

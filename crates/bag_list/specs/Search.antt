@@ -1,5 +1,5 @@
 -- Where a search stands, and which solutions are still to come.
-use Rattle.std.specs.Prelude.{◌≡◌, ℕ, ◌+◌, ◌*◌, ◌-◌, ◌^◌, ◌<◌, ◌≤◌, Bool, cond, nat_lt, List, [], ◌∷◌, length, map, take, slice_index_or, zero, suc, IfSome}
+use Rattle.std.specs.Prelude.{◌≡◌, ℕ, ◌+◌, ◌*◌, ◌-◌, ◌^◌, ◌<◌, ◌≤◌, Bool, true, cond, nat_lt, List, [], ◌∷◌, length, map, take, slice_index_or, zero, suc, IfSome}
 use Rattle.std.specs.List.{AllByRecursion, range_with_len}
 use Rattle.std.specs.List.Sorted.{IsPermutation}
 use Rattle.std.specs.Ordering.{nat_cmp}
@@ -10,7 +10,7 @@ use Rattle.bag_list.specs.declared.level.Level.{Level}
 use Rattle.bag_list.specs.declared.search.Search.{Search}
 use Rattle.bag_list.specs.Levels.{from_of, to_come, level_labels, n_fresh, tells}
 use Rattle.bag_list.specs.declared.track.Track.{Track}
-use Rattle.bag_list.specs.Tracks.{rests, AreTracks}
+use Rattle.bag_list.specs.Tracks.{rests, AllAdmitAt, AreTracks}
 
 -- all numbers of ids below n, and the assignments of ids
 unfoldable pub ids_below : ℕ → List ℕ
@@ -49,7 +49,8 @@ IsTried f = (f.key.0 < from_of f.from) × (f.key.0 < 2 ^ 32)
 
 module _ {O : Type 0} (depth_of : O → ℕ) (tuples : O → IdSet) where
   -- the levels have each label below their number once, those that tell rows apart first; before each level that was entered
-  -- there stands what the ones before it leave, and below it only keys that were tried
+  -- there stands what the ones before it leave, and below it only keys that were tried; the last label of all has a key that
+  -- each pattern admits
   pub record AreKept (telling : ℕ → Bool) (levels : List Level) (depth : ℕ) (fresh : Bool) (told : ℕ) (tracks : List (Track O)) (values : List Id) : Type 0 where
     pub within : depth ≤ length levels
     pub labels : IsPermutation (range_with_len 0 (length levels)) (level_labels levels)
@@ -60,6 +61,8 @@ module _ {O : Type 0} (depth_of : O → ℕ) (tuples : O → IdSet) where
     pub n_values : length values ≡ length levels
     pub keys : (j : ℕ) (f : Level) (k : Id) → j < depth → slice_index_or values (slice_index_or levels j f).label k ≡ (slice_index_or levels j f).key
     pub tried : (j : ℕ) (f : Level) → j + 1 < depth + n_fresh fresh → IsTried (slice_index_or levels j f)
+    pub admitted : fresh ≡ true → (last : ℕ) (f : Level) → depth ≡ last + 1 → length levels ≡ last + 1
+        → AllAdmitAt tuples tracks last (slice_index_or levels last f).label (slice_index_or levels last f).key.0
 
   pub record IsKept (s : Search O) : Type 0 where
     pub kept : AreKept (tells s.columns.items s.distinct) s.levels.items s.depth s.fresh s.told s.tracks.items s.values.items

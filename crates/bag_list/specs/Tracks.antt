@@ -1,5 +1,5 @@
 -- What is left of a pattern while labels are fixed.
-use Rattle.std.specs.Prelude.{◌≡◌, ◌≢◌, ℕ, ◌+◌, ◌<◌, ◌≤◌, true, List, [], ◌∷◌, length, map, take, slice_index_or, Option, None, Some, IfSome}
+use Rattle.std.specs.Prelude.{◌≡◌, ◌≢◌, ℕ, ◌+◌, ◌-◌, ◌<◌, ◌≤◌, true, List, [], ◌∷◌, length, map, take, slice_index_or, Option, None, Some, IfSome}
 use Rattle.std.specs.List.{AllByRecursion}
 use Rattle.std.specs.Ordering.{nat_cmp}
 use Rattle.hypertrie_model.specs.IdSets.{IdSet}
@@ -75,11 +75,11 @@ module _ {O : Type 0} (depth_of : O → ℕ) (tuples : O → IdSet) where
     pub labels : labels_of p.labels ≡ unfixed fs (labels_of s.labels)
     pub image : (a : List ℕ) → agrees fs a ≡ true → has (tuples p.op) (image a (labels_of p.labels)) ≡ has (tuples s.op) (image a (labels_of s.labels))
 
-  -- before each of the first m levels, and n in all, there stands what the levels before it leave
+  -- before each of the first m levels, and n in all, there stands what the levels before it leave; what all n leave is nowhere
   pub record IsTrack (n m : ℕ) (fs : List Level) (t : Track O) : Type 0 where
     pub room : length t.parts.items ≡ n + 1
     pub below : AllByRecursion (λ l. l < n) (labels_of t.start.labels)
-    pub left : (j : ℕ) (p : Part O) → j < m → IsLeft (take j fs) t.start (slice_index_or t.parts.items j p)
+    pub left : (j : ℕ) (p : Part O) → j < m → j ≤ n - 1 → IsLeft (take j fs) t.start (slice_index_or t.parts.items j p)
 
   -- the operand, if there is one, has a position for each label, and some tuple; the labels are below n
   pub record IsStart (n : ℕ) (s : Start O) : Type 0 where

@@ -9,7 +9,7 @@ ghost use Rattle.bag_list.specs.Search.{IsKept, IsSameQuery, coming_of, id_solut
 ghost use Rattle.bag_list.specs.Tracks.{IsPart, IsStart, part_at, rests_of};
 
 use crate::level::{Level, after, levels_of};
-use crate::track::{Start, Track, enter_all, n_keys, next_key, ops_of, tracks_of};
+use crate::track::{Start, Track, enter_next, n_keys, next_key, ops_of, tracks_of};
 use query_plan::choose;
 use std::alloc::Global;
 use std::sync::ledger::Ledger;
@@ -158,7 +158,8 @@ impl<O: Operand> Search<O> {
                     from: after(key),
                 };
                 self.values[usize::from(label)] = key;
-                self.fresh = enter_all(&mut self.tracks, last, label, key, reads);
+                let is_last = self.depth == self.levels.len();
+                self.fresh = enter_next(&mut self.tracks, last, is_last, label, key, reads);
             }
         }
     }

@@ -91,7 +91,7 @@ fn fixed<O: Operand, W: Ledger>(
 }
 
 /// Fixes the label of a level at a key in every pattern. False where nothing is left of one.
-pub fn enter_all<O: Operand, W: Ledger>(
+fn enter_all<O: Operand, W: Ledger>(
     tracks: &mut [Track<O>],
     depth: usize,
     label: u8,
@@ -113,6 +113,27 @@ pub fn enter_all<O: Operand, W: Ledger>(
     true
 }
 
+/// The same for a key that every pattern admits. What the last label of all leaves is asked for nowhere, so nothing is fixed.
+pub fn enter_next<O: Operand, W: Ledger>(
+    tracks: &mut [Track<O>],
+    depth: usize,
+    is_last: bool,
+    label: u8,
+    key: Id,
+    reads: &mut Steps<W>,
+) -> bool
+    requires room { (i : ℕ) (t : _) → i < length tracks.old → depth + 1 < length (slice_index_or tracks.old i t).parts.items }
+    requires parts { (i : ℕ) (t : _) (p : _) → i < length tracks.old → IsPart O.depth_of O.tuples (part_at tracks.old depth i t p) }
+    ensures same { (i : ℕ) (t : _) → i < length tracks.old → IsSameTo depth (slice_index_or tracks.old i t) (slice_index_or tracks.new i t) }
+    ensures some { IsTrue result → is_last ≡ false → (i : ℕ) (t : _) (p : _) → i < length tracks.old → IsFixed O.depth_of O.tuples label key.0 (part_at tracks.old depth i t p) (part_at tracks.new (depth + 1) i t p) }
+    ensures none { result ≡ false → AllAdmitAt O.tuples tracks.old depth label key.0 → ⊥ }
+{
+    if is_last {
+        return true;
+    }
+    enter_all(tracks, depth, label, key, reads)
+}
+
 /// The operands and masks of the patterns that have a label, and how many these are.
 fn gather<O: Operand>(
     tracks: &[Track<O>],
@@ -128,6 +149,7 @@ fn gather<O: Operand>(
     ensures within { result ≤ length tracks.now }
     ensures fit { AllFit O.depth_of (take result ops.new) (take result masks.new) }
     ensures asked { (k : ℕ) → AllAdmitAt O.tuples tracks.now depth label k → AllAdmit O.tuples (take result ops.new) (take result masks.new) k }
+    ensures whole { (k : ℕ) → AllAdmit O.tuples (take result ops.new) (take result masks.new) k → AllAdmitAt O.tuples tracks.now depth label k }
     ensures some { ((i : ℕ) × (i < length tracks.now) × ((t : _) (p : _) → 1 ≤ mask_of label (labels_of (part_at tracks.now depth i t p).labels))) → 1 ≤ result }
 {
     let mut count = 0;
@@ -162,6 +184,7 @@ pub fn next_key<O: Operand, W: Ledger>(
     ensures none { IsNone result → (k : ℕ) → from_of from ≤ k → AllAdmitAt O.tuples tracks.now depth label k → ⊥ }
     ensures from { IfSome result (λ r. from_of from ≤ r.0) }
     ensures small { IfSome result (λ r. r.0 < 2 ^ 32) }
+    ensures admitted { IfSome result (λ r. AllAdmitAt O.tuples tracks.now depth label r.0) }
     ensures least { IfSome result (λ r. (k : ℕ) → from_of from ≤ k → k < r.0 → AllAdmitAt O.tuples tracks.now depth label k → ⊥) }
 {
     let from = from?;

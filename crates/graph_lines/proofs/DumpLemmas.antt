@@ -8,16 +8,16 @@ use Rattle.std.specs.List.{list_any}
 use Rattle.std.specs.Ordering.{eq_by_cmp, nat_cmp}
 use Rattle.std.specs.Cmp.Lexicographic.{slice_cmp}
 use Rattle.hypertrie_model.specs.IdSets.{IdSet}
-use Rattle.hypertrie_model.specs.Sets.{has, empty}
+use Rattle.hypertrie_model.specs.Sets.{has}
 use Rattle.hypertrie_model.specs.SetLaws.{or_right, tied-itself}
 use Rattle.rdf_model.specs.Terms.{Text, Triple}
-use Rattle.rdf_model.specs.Graph.{Graph, triple_cmp, triples_total, exact_triples}
+use Rattle.rdf_model.specs.Graph.{Graph, triples_total, exact_triples}
 use Rattle.rdf_model.specs.Texts.{dump_line}
 use Rattle.rdf_model.specs.Dumps.{AreTriplesOf}
 use Rattle.term_dict.specs.Dict.{Terms, IsOneToOne}
 use Rattle.set_image.specs.ImageLaws.{image-from_list}
 use Rattle.graph_image.specs.Images.{triple_at, graph_of, IsKnown, AreKnown}
-use Rattle.graph_image.specs.ImageLaws.{tuples_total, tuples_exact, graph_of-empty, len-graph_of}
+use Rattle.graph_image.specs.ImageLaws.{tuples_total, tuples_exact, len-graph_of}
 use Rattle.graph_lines.specs.Walks.{AddsTexts, line_behind}
 
 module _ (terms : Terms) where
@@ -45,7 +45,3 @@ lines_read terms one H known before old now nothing none added =
       },
       added.2 ∙ (λ i. none i ++ each (line_behind terms (nothing i)) ts) ∙ lines_known terms ts (λ t there. known t (ap (λ S. has S t) (sym members.all) ∙ set.contains-from_list tuples_total ts t ∙ there)),
     )
-
--- and without a tuple there is no line
-pub no_lines : (terms : Terms) → HasLines (graph_of terms (empty nat_cmp)) []
-no_lines terms = ([], record { all = sym (graph_of-empty terms); once = sym (set.len-empty triple_cmp) ∙ ap set.len (sym (graph_of-empty terms)) }, refl)

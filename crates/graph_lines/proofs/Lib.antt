@@ -1,6 +1,7 @@
 pub mod WalkLemmas
-pub mod OperandLemmas
 pub mod MapLemmas
+pub mod EdgeWalks
 pub mod DumpLemmas
 pub mod MemberLemmas
+pub mod TripleLemmas
 pub mod RowLemmas

@@ -18,7 +18,7 @@ use Rattle.hypertrie_model.specs.Members.{no_members}
 use Rattle.hypertrie_model.specs.Unions.{union_over}
 use Rattle.hypertrie_model.specs.UnionLaws.{has-union_over_nil}
 use Rattle.rdf_model.specs.Terms.{Text, Term, Iri}
-use Rattle.rdf_model.specs.Texts.{tsv}
+use Rattle.rdf_model.specs.Texts.{canon, tsv}
 use Rattle.term_dict.specs.Dict.{Terms}
 use Rattle.edge_map.specs.declared.edge.Edge.{Edge}
 use Rattle.edge_map.specs.declared.edge.Edge.TheVariants.{Key, Node as ToRow}
@@ -37,7 +37,9 @@ use Rattle.graph_shape.specs.GraphShapes.{member_text}
 use Rattle.graph_image.specs.Images.{term_at}
 use Rattle.graph_view.specs.Read.{AreRead}
 use Rattle.graph_view.specs.ReadLaws.{tests_prop, kept_known}
-use Rattle.graph_lines.specs.Walks.{AddsTexts, member_behind}
+use Rattle.graph_lines.specs.declared.style.Style.{Style}
+use Rattle.graph_lines.specs.declared.style.Style.TheVariants.{Member, Line}
+use Rattle.graph_lines.specs.Walks.{AddsTexts, text_in, end_in, words, behind}
 use Rattle.graph_lines.proofs.MapLemmas.{under_known}
 
 -- the text of the one tuple of a set
@@ -60,15 +62,22 @@ added_as text other H same old now added = (
 term_is : (terms : Terms) (k : ℕ) (x : Term) → map.get terms k ≡ Some x → term_at terms k ≡ x
 term_is terms k x found = ap (λ o. unwrap_or o (Iri [])) found
 
--- the text of a key
-pub key_text : (terms : Terms) (before : Text) (k : ℕ) (x : Term) (text : Text) → map.get terms k ≡ Some x → text ≡ before ++ tsv x → text ≡ member_behind terms before (k ∷ [])
-key_text terms before k x text found is = is ∙ ap (λ y. before ++ tsv y) (sym (term_is terms k x found)) ∙ ap (λ w. before ++ w) (sym (append-nil (tsv (term_at terms k))))
+-- the text of the last key
+pub key_text : (style : Style) (terms : Terms) (before : Text) (k : ℕ) (x : Term) (text : Text) → map.get terms k ≡ Some x → text ≡ before ++ text_in style x ++ end_in style → text ≡ behind style terms before (k ∷ [])
+key_text Member terms before k x text found is = is ∙ ap (λ y. before ++ tsv y ++ []) (sym (term_is terms k x found)) ∙ append_assoc before (tsv (term_at terms k)) []
+key_text Line terms before k x text found is = is ∙ ap (λ y. before ++ canon y ++ codes " .") (sym (term_is terms k x found)) ∙ sym (ended before (canon (term_at terms k))) where
+  ended : (a b : Text) → (a ++ ((b ++ codes " ") ++ [])) ++ codes "." ≡ (a ++ b) ++ codes " ."
+  ended a b =
+      ap (λ w. (a ++ w) ++ codes ".") (append-nil (b ++ codes " ")) ∙ append_assoc a (b ++ codes " ") (codes ".") ∙ ap (λ w. a ++ w) (append_assoc b (codes " ") (codes "."))
+      ∙ sym (append_assoc a b (codes " ."))
 
--- the text of a pair behind its first key
-pub pair_text : (terms : Terms) (k : ℕ) (x : Term) (word : Text) → map.get terms k ≡ Some x → word ≡ tsv x ++ codes " " → (t : List ℕ) → 1 ≤ length t → member_behind terms word t ≡ member_behind terms [] (k ∷ t)
-pair_text terms k x word found is [] some = absurd (omega arith)
-pair_text terms k x word found is (y ∷ t) some =
-    ap (λ w. w ++ member_text (term_at terms y ∷ each (term_at terms) t)) (is ∙ ap (λ z. tsv z ++ codes " ") (sym (term_is terms k x found))) ∙ simp append_assoc
+-- the text of a tuple behind its first key
+pub text_under : (style : Style) (terms : Terms) (before : Text) (k : ℕ) (x : Term) (word : Text) → map.get terms k ≡ Some x → word ≡ before ++ text_in style x ++ codes " " → (t : List ℕ) → 1 ≤ length t → behind style terms word t ≡ behind style terms before (k ∷ t)
+text_under style terms before k x word found is [] some = absurd (omega arith)
+text_under Member terms before k x word found is (y ∷ t) some =
+    ap (λ w. w ++ member_text (term_at terms y ∷ each (term_at terms) t)) (is ∙ ap (λ z. before ++ tsv z ++ codes " ") (sym (term_is terms k x found))) ∙ simp append_assoc
+text_under Line terms before k x word found is (y ∷ t) some =
+    ap (λ w. w ++ words terms (y ∷ t) ++ codes ".") (is ∙ ap (λ z. before ++ canon z ++ codes " ") (sym (term_is terms k x found))) ∙ simp append_assoc
 
 -- ---- keys, known and there
 

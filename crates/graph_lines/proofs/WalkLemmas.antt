@@ -12,8 +12,8 @@ use Rattle.std.specs.FinSet as set
 use Rattle.std.specs.Ordering.{nat_cmp, eq_by_cmp}
 use native.Mathlib.Decide.{dec_lt}
 use Rattle.hypertrie_model.specs.IdSets.{IdSet}
-use Rattle.hypertrie_model.specs.Sets.{has, empty, single, HasDepth}
-use Rattle.hypertrie_model.specs.SetLaws.{same_sets, same_test, and_both, or_cases, or_right, tied-is, tied-itself, has-single, len-single}
+use Rattle.hypertrie_model.specs.Sets.{has, empty}
+use Rattle.hypertrie_model.specs.SetLaws.{same_sets, same_test, and_both, or_cases, or_right, tied-is, tied-itself}
 use Rattle.hypertrie_model.specs.SetInduction.{len-union_disjoint}
 use Rattle.hypertrie_model.specs.Slices.{slice}
 use Rattle.hypertrie_model.specs.SliceLaws.{has-slice}
@@ -46,27 +46,6 @@ part_none H = no_members (lists_total total) (slice_cmp-IsAntisymmetric exact) (
 
 pub members_none : (H : IdSet) → AreMembersOf (part H 0) []
 members_none H = record { all = sym (part_none H); once = sym (ap set.len (part_none H) ∙ set.len-empty (slice_cmp nat_cmp)) }
-
--- a set of tuples of no key that isn't empty is that of the one such tuple
-pub only_nil : (H : IdSet) → HasDepth 0 H → H ≢ empty nat_cmp → H ≡ single nat_cmp []
-only_nil H deep some = same_sets total exact H (single nat_cmp []) at where
-  nil_there : has H [] ≡ true
-  nil_there = elim (has H []) as (λ b. has H [] ≡ b → has H [] ≡ true) [
-    | true ↦ λ e. e
-    | false ↦ λ e. absurd (some (no_members (lists_total total) (slice_cmp-IsAntisymmetric exact) H (λ t there. none t there e)))
-  ] refl where
-    none : (t : List ℕ) → has H t ≡ true → has H [] ≡ false → ⊥
-    none [] there e = cc
-    none (k ∷ t) there e = let n = deep (k ∷ t) there in omega arith
-
-  at : (t : List ℕ) → has H t ≡ has (single nat_cmp []) t
-  at [] = nil_there ∙ sym (has-single total exact [] [])
-  at (k ∷ t) = same_test _ _ (λ e. absurd (let n = deep (k ∷ t) e in omega arith)) (λ e. absurd (let n : k ∷ t ≡ [] = tied-is (slice_cmp-IsAntisymmetric exact) (k ∷ t) [] (sym (has-single total exact [] (k ∷ t)) ∙ e) in let f : ⊥ = cc in f))
-
-pub members_nil : (H : IdSet) → HasDepth 0 H → H ≢ empty nat_cmp → AreMembersOf H ([] ∷ [])
-members_nil H deep some =
-    let is = only_nil H deep some in
-    record { all = sym is; once = sym (ap set.len is ∙ len-single total exact []) }
 
 image_prefixed : (k : ℕ) (S : IdSet) → image (slice_cmp nat_cmp) (λ t. k ∷ t) S ≡ prefixed nat_cmp k S
 unfolding image
@@ -184,10 +163,6 @@ walked_none text H old = ([], members_none H, sym (append-nil old))
 
 pub walked_all : (text : List ℕ → Text) (H : IdSet) → has H [] ≡ false → (from : ℕ) → ((k : ℕ) → from ≤ k → slice nat_cmp H 0 k ≡ empty nat_cmp) → (old now : List Text) → Walked text H from old now → AddsTexts text H old now
 walked_all text H nil from none old now seen = (seen.0, subst (λ S. AreMembersOf S seen.0) (part_all H nil from none) seen.1, seen.2)
-
--- the text of the one tuple of no key
-pub added_nil : (text : List ℕ → Text) (H : IdSet) → HasDepth 0 H → H ≢ empty nat_cmp → (old now : List Text) → now ≡ old ++ text [] ∷ [] → AddsTexts text H old now
-added_nil text H deep some old now is = ([] ∷ [], members_nil H deep some, is)
 
 module _ (text under : List ℕ → Text) (k : ℕ) (same : (t : List ℕ) → under t ≡ text (k ∷ t)) where
   same_texts : (ts : List (List ℕ)) → each under ts ≡ each text (each (λ t. k ∷ t) ts)

@@ -1,5 +1,5 @@
 -- Tuples of Ids as texts, and the texts of a set's members in a list.
-use Rattle.std.specs.Prelude.{◌≡◌, ℕ, List, [], ◌∷◌, ◌++◌, map, codes}
+use Rattle.std.specs.Prelude.{◌≡◌, ℕ, List, [], ◌∷◌, ◌++◌, map, codes, IsSome}
 use Rattle.std.specs.Ordering.{nat_cmp}
 use Rattle.std.specs.declared.cmp.Ordering.{Ordering}
 use Rattle.std.specs.FinMap.{FinMap}
@@ -7,17 +7,20 @@ use Rattle.std.specs.FinSet as set
 use Rattle.hypertrie_model.specs.IdSets.{IdSet}
 use Rattle.hypertrie_model.specs.Sets.{single}
 use Rattle.hypertrie_model.specs.Unions.{union_over}
-use Rattle.rdf_model.specs.Terms.{Text}
-use Rattle.rdf_model.specs.Texts.{canon}
+use Rattle.rdf_model.specs.Terms.{Text, Term}
+use Rattle.rdf_model.specs.Texts.{canon, tsv}
 use Rattle.rdf_model.specs.Graph.{term_cmp}
 use Rattle.term_dict.specs.Dict.{Terms}
 use Rattle.trie_context.specs.declared.tables.Tables.{Tables}
-use Rattle.trie_context.specs.Rows.{row_of, set_of}
+use Rattle.trie_context.specs.Rows.{row_of, rows_at, set_of}
 use Rattle.trie_context.specs.Holds.{count_of}
-use Rattle.tuple_image.specs.TupleImages.{tuple_image}
+use Rattle.tuple_image.specs.TupleImages.{tuple_image, IsOver}
 use Rattle.rdf_model.specs.Sorting.{AreMembersOf}
 use Rattle.graph_shape.specs.GraphShapes.{GraphRow, member_text, row_line}
 use Rattle.graph_image.specs.Images.{term_at}
+use Rattle.graph_view.specs.Read.{has_id}
+use Rattle.graph_lines.specs.declared.style.Style.{Style}
+use Rattle.graph_lines.specs.declared.style.Style.TheVariants.{Member, Line}
 
 -- the texts are those that were there, and behind them that of each member of the set
 abbrev pub AddsTexts : {K : Type 0} {R : K → K → Ordering} → (K → Text) → set.FinSet R → List Text → List Text → Type 0
@@ -40,6 +43,25 @@ line_behind terms before ids = before ++ words terms ids ++ codes "."
 abbrev pub member_behind : Terms → Text → List ℕ → Text
 member_behind terms before ids = before ++ member_text (map (term_at terms) ids)
 
+-- the text of a term
+abbrev pub text_in : Style → Term → Text
+text_in Member = tsv
+text_in Line = canon
+
+-- what stands behind the last term
+abbrev pub end_in : Style → Text
+end_in Member = []
+end_in Line = codes " ."
+
+-- the text that is there, and that of a tuple
+abbrev pub behind : Style → Terms → Text → List ℕ → Text
+behind Member = member_behind
+behind Line = line_behind
+
+-- the texts in a style of the tuples, behind the one that is there
+abbrev pub AddsTuples : Style → Terms → Text → IdSet → List Text → List Text → Type 0
+AddsTuples style terms before = AddsTexts (behind style terms before)
+
 -- a row of the tables, its set read through the dictionary
 abbrev pub row_read : Terms → Tables → ℕ → ℕ → GraphRow
 row_read terms t d r = record { depth = d; tuples = tuple_image term_cmp (term_at terms) (set_of t d r); count = count_of (row_of t d r) }
@@ -48,3 +70,15 @@ row_read terms t d r = record { depth = d; tuples = tuple_image term_cmp (term_a
 abbrev pub row_text : Terms → Tables → ℕ → List ℕ → Text
 row_text terms t d [] = []
 row_text terms t d (r ∷ rest) = row_line (row_read terms t d r)
+
+-- the rows of a depth have Ids of the dictionary
+abbrev pub AreRowsKnown : Terms → Tables → ℕ → Type 0
+AreRowsKnown terms t d = (r : ℕ) → IsSome (row_of t d r) → IsOver (has_id terms) (set_of t d r)
+
+-- the lines of the rows of a depth, behind those that are there
+abbrev pub AddsRows : Terms → Tables → ℕ → List Text → List Text → Type 0
+AddsRows terms t d = AddsTexts (row_text terms t d) (key_set (rows_at t d))
+
+-- the lines of the rows of depth one, and behind them those of depth two
+abbrev pub AreRowTexts : Terms → Tables → List Text → Type 0
+AreRowTexts terms t texts = (ones : List Text) × AddsRows terms t 1 [] ones × AddsRows terms t 2 ones texts

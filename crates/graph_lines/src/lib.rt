@@ -7,6 +7,7 @@ mod members;
 mod row_lines;
 mod shape;
 mod sorted;
+mod style;
 mod triple_lines;
 
 pub use dumping::dump;

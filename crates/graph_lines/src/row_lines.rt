@@ -2,11 +2,11 @@
 ghost use Rattle.std.specs.Prelude.{◌≡◌, ℕ, ◌<◌, ◌≤◌, ◌++◌, codes, decimal, None, IsSome, IsNone, IfSome, IfOk, OnOk};
 ghost use Rattle.rdf_model.specs.Sorting.{in_order};
 ghost use Rattle.graph_shape.specs.GraphShapes.{depth_name, tabbed, row_line};
-ghost use Rattle.trie_context.specs.Rows.{row_of, rows_at, set_of};
+ghost use Rattle.trie_context.specs.Rows.{row_of, set_of};
 ghost use Rattle.trie_context.specs.Holds.{count_of};
 ghost use Rattle.tuple_image.specs.TupleImages.{IsOver};
 ghost use Rattle.graph_view.specs.Read.{has_id};
-ghost use Rattle.graph_lines.specs.Walks.{AddsTexts, key_set, row_read, row_text};
+ghost use Rattle.graph_lines.specs.Walks.{AddsRows, AreRowsKnown, row_read};
 
 use crate::members::add_members;
 use graph_view::TablesView;
@@ -96,8 +96,8 @@ pub(crate) fn add_row_lines(
 ) -> Result<(), Memory>
     requires low { 1 ≤ depth }
     requires high { depth ≤ 2 }
-    requires known { (r : ℕ) → IsSome (row_of all.tables.now depth r) → IsOver (has_id all.dict.now) (set_of all.tables.now depth r) }
-    ensures { OnOk result (AddsTexts (row_text all.entry.dict.now all.entry.tables.now depth) (key_set (rows_at all.entry.tables.now depth)) lines.old.items lines.new.items) }
+    requires known { AreRowsKnown all.dict.now all.tables.now depth }
+    ensures { OnOk result (AddsRows all.entry.dict.now all.entry.tables.now depth lines.old.items lines.new.items) }
 {
     let mut from = 0;
     loop {

@@ -1,109 +1,79 @@
-//! A graph as the lines of its triples.
-ghost use Rattle.std.specs.Prelude.{◌≡◌, ◌≢◌, List, ◌<◌, ◌++◌, map as each, codes, IfSome, IfOk, OnOk};
-ghost use Rattle.std.specs.Ordering.{nat_cmp};
-ghost use Rattle.hypertrie_model.specs.Sets.{empty};
-ghost use Rattle.rdf_model.specs.Terms as model;
-ghost use Rattle.rdf_model.specs.Texts.{canon, dump_line};
-ghost use Rattle.rdf_model.specs.Dumps.{AreTriplesOf, dump_lines};
-ghost use Rattle.rdf_term.specs.Seen.{lent_term};
-ghost use Rattle.term_dict.specs.Dict.{IsOneToOne};
-ghost use Rattle.tuple_image.specs.TupleImages.{IsOver};
-ghost use Rattle.graph_image.specs.Images.{graph_of, AreKnown};
-ghost use Rattle.graph_view.specs.Read.{has_id, set_in};
+//! The lines of the triples of a graph, read off its tables.
+ghost use Rattle.std.specs.Prelude.{◌≡◌, ℕ, [], Some, IsSome, IfOk, OnOk};
+ghost use Rattle.std.specs.FinMap as map;
+ghost use Rattle.hypertrie_model.specs.Unions.{union_over};
+ghost use Rattle.edge_map.specs.declared.edge.Edge.{Edge};
+ghost use Rattle.trie_depth.specs.Tuples.{trip_tuple};
+ghost use Rattle.trie_node.specs.Sets.{edge_set};
+ghost use Rattle.trie_context.specs.Rows.{set_of, LeadsToRow};
+ghost use Rattle.graph_image.specs.Images.{AreKnown};
+ghost use Rattle.graph_view.specs.Views.{triples_in};
 ghost use Rattle.graph_lines.specs.Walks.{AddsTexts, line_behind};
 
-use crate::sorted::sorted_lines;
-use rdf_term::{TermRef, canon_text};
+use crate::members::add_row_pairs;
+use crate::style::{Style, with_last, with_word};
+use edge_map::{Edge, EdgeMap};
+use graph_view::{GraphView, TablesView};
 use std::alloc::Global;
-use std::marker::Brand;
-use std::sync::ledger::{Blank, Ledger};
 use term_dict::Dict;
-use tn_io::{Lines, Text};
-use trie_depth::{Id, Mask, Memory, Operand, Steps};
+use tn_io::Text;
+use trie_context::Root;
+use trie_depth::{Memory, Trip};
 
-/// The first position of a tuple.
-const FIRST: Mask = Mask(1);
-
-/// The words and one more, with a space behind it.
-fn with_word(alloc: Global, before: &Text, term: TermRef<'_>) -> Result<Text, Memory>
-    ensures { IfOk result (λ words. words ≡ before.now ++ canon (lent_term term.entry) ++ codes " ") }
+/// The line of a triple.
+fn triple_line(alloc: Global, triple: Trip, dict: &Dict) -> Result<Text, Memory>
+    requires subject { IsSome (map.get dict.now triple.0.0) }
+    requires predicate { IsSome (map.get dict.now triple.1.0) }
+    requires object { IsSome (map.get dict.now triple.2.0) }
+    ensures { IfOk result (λ line. line ≡ line_behind dict.now [] (trip_tuple triple)) }
 {
-    let mut words = before.clone()?;
-    canon_text(alloc, term, &mut words)?;
-    words.push(" ")?;
-    Ok(words)
+    let subject = with_word(alloc, Style::Line, &Text::new(alloc), dict.term(triple.0))?;
+    let pair = with_word(alloc, Style::Line, &subject, dict.term(triple.1))?;
+    with_last(alloc, Style::Line, &pair, dict.term(triple.2))
 }
 
-/// Adds a line for each tuple of a slice: the words that lead to the slice, and then those of the tuple.
-fn add_lines<O: Operand, W: Ledger>(
+/// Adds the line of each triple: a subject, and a pair that its edge leads to.
+fn add_triples(
     alloc: Global,
-    slice: O,
-    before: Text,
-    dict: &Dict,
+    all: TablesView<'_>,
+    triples: &EdgeMap,
     lines: &mut Vec<Text>,
-    reads: &mut Steps<W>,
 ) -> Result<(), Memory>
-    requires known { IsOver (has_id dict.now) (O.tuples slice) }
-    requires some { O.depth_of slice ≡ 0 → O.tuples slice ≢ empty nat_cmp }
-    ensures { OnOk result (AddsTexts (line_behind dict.now before) (O.tuples slice) lines.old.items lines.new.items) }
+    requires there { (k : ℕ) (e : Edge) → map.get triples.now k ≡ Some e → LeadsToRow all.tables.now 2 e }
+    requires known { AreKnown all.dict.now (union_over triples.now (edge_set (set_of all.tables.now 2))) }
+    ensures { let tuples = union_over triples.now (edge_set (set_of all.entry.tables.now 2)) in
+        OnOk result (AddsTexts (line_behind all.entry.dict.now []) tuples lines.old.items lines.new.items) }
 {
-    if slice.depth() == 0 {
-        let mut line = before;
-        line.push(".")?;
-        lines.push(line)?;
-        return Ok(());
-    }
-    let mut from = Id(0);
-    loop {
-        let Some(key) = slice.seek(FIRST, from, reads) else {
-            return Ok(());
-        };
-        let Some(rest) = slice.fix(FIRST, key, reads) else {
-            unreachable!()
-        };
-        let words = with_word(alloc, &before, dict.term(key))?;
-        add_lines(alloc, rest, words, dict, lines, reads)?;
-        if key.0 == u32::MAX {
-            return Ok(());
+    let start = Text::new(alloc);
+    let mut walk = triples.walk();
+    while let Some((subject, edge)) = walk.next() {
+        let word = with_word(alloc, Style::Line, &start, all.dict.term(subject))?;
+        match edge {
+            Edge::Key(_) => unreachable!(),
+            Edge::Node(row) => add_row_pairs(alloc, Style::Line, all, row, &word, lines)?,
         }
-        from = Id(key.0 + 1);
     }
+    Ok(())
 }
 
-/// The line of each triple of a graph, in the order of the walk.
-fn texts<O: Operand, W: Ledger>(
+/// Adds the line of each triple of a graph.
+pub(crate) fn add_lines(
     alloc: Global,
-    graph: Option<O>,
-    dict: &Dict,
-    blank: Blank,
-) -> Result<Vec<Text>, Memory>
-    requires deep { IfSome graph (λ g. O.depth_of g ≡ 3) }
-    requires known { AreKnown dict.now (set_in O.tuples graph) }
-    requires one { IsOneToOne dict.now }
-    requires name { blank.name ≡ W.name }
-    requires parts { blank.parts ≡ W.parts }
-    requires whole { 0 < W.parts }
-    ensures { IfOk result (λ texts. (triples : List model.Triple) × AreTriplesOf (graph_of dict.now (set_in O.tuples graph)) triples × (texts.items ≡ each dump_line triples)) }
+    graph: GraphView<'_>,
+    lines: &mut Vec<Text>,
+) -> Result<(), Memory>
+    ensures { let terms = graph.entry.all.dict.now in
+        OnOk result (AddsTexts (line_behind terms []) (triples_in graph.entry) lines.old.items lines.new.items) }
 {
-    let mut lines = Vec::new(alloc);
-    let Some(slice) = graph else {
-        return Ok(lines);
-    };
-    let mut reads = Steps::<W>::new(blank);
-    add_lines(alloc, slice, Text::new(alloc), dict, &mut lines, &mut reads)?;
-    Ok(lines)
-}
-
-/// The lines of the triples of a graph, none where there is no operand, sorted by their bytes.
-pub(crate) fn lines_of<O: Operand>(
-    alloc: Global,
-    graph: Option<O>,
-    dict: &Dict,
-) -> Result<Lines, Memory>
-    requires deep { IfSome graph (λ g. O.depth_of g ≡ 3) }
-    requires known { AreKnown dict.now (set_in O.tuples graph) }
-    requires one { IsOneToOne dict.now }
-    ensures { IfOk result (λ lines. lines ≡ dump_lines (graph_of dict.now (set_in O.tuples graph))) }
-{
-    sorted_lines(alloc, texts::<O, Brand>(alloc, graph, dict, Blank::new(1))?)
+    match graph.root {
+        Root::Empty => Ok(()),
+        Root::One(triple) => {
+            lines.push(triple_line(alloc, *triple, graph.all.dict)?)?;
+            Ok(())
+        }
+        Root::Many(held) => match graph.all.tables.three.node(held.row()).map(0) {
+            Some(triples) => add_triples(alloc, graph.all, triples, lines),
+            None => unreachable!(),
+        },
+    }
 }

@@ -24,8 +24,7 @@ impl<'a> TablesView<'a> {
         ensures kept { AreKept M.mixed context.now }
         ensures one { IsOneToOne dict.now }
     {
-        // This call tells the proof that no two Ids have one term.
-        dict.len();
+        dict.is_one_to_one();
         TablesView {
             tables: context.tables(),
             dict,

@@ -1,5 +1,5 @@
 -- What is told of a script, through its private calls.
-use Rattle.std.proofs.Common.{◌≡◌, ◌∙◌, ◌⊎◌, inl, inr, ℕ, zero, suc, ◌+◌, ◌-◌, ◌≤◌, ◌<◌, Bool, true, false, cond, List, [], ◌∷◌, ◌++◌, length, take, drop, refl, sym, ap, subst, arith, append_assoc, append-nil, length-append, length-take, length-drop}
+use Rattle.std.proofs.Common.{◌≡◌, ◌∙◌, inl, inr, ℕ, zero, suc, ◌+◌, ◌-◌, ◌≤◌, ◌<◌, Bool, true, false, List, [], ◌∷◌, ◌++◌, length, take, drop, refl, sym, ap, subst, arith, append_assoc, append-nil, length-append, length-take, length-drop}
 use Rattle.std.specs.Prelude.{Option, Some, None, Ok, Err, IfSome}
 use Rattle.std.specs.Io.KnownBytes.{prepend_known, IsAtEnd}
 use Rattle.std.proofs.lemmas.List.{take-append-drop, take_all, take-append-le, drop-drop}
@@ -7,8 +7,8 @@ use Rattle.text_lines.specs.Lines.{Line, lines_of, whole_lines_of}
 use Rattle.tn_io.specs.CutterState as cutter
 use Rattle.tn_io.specs.CutterState.{told, line_told, to_come, whole_to_come}
 use Rattle.tn_io.specs.declared.cutter.Cut.{Cut}
-use Rattle.script_read.specs.ScriptState.{State, not_yet, to_go, IsOpen, IsEnded, HasTold, at_start}
-use Rattle.script_read.specs.ScriptCalls.{Tells, NextLine, Takes}
+use Rattle.script_read.specs.ScriptState.{State, not_yet, IsOpen, HasTold, at_start}
+use Rattle.script_read.specs.ScriptCalls.{NextLine, Takes}
 use Rattle.script_read.specs.declared.script.ScriptFault.TheVariants.{Read, TooLong}
 
 prepend_none : (a : Option (List ℕ)) → a ≡ prepend_known [] a

@@ -57,6 +57,13 @@ impl Dict {
         self.places.held() as u32
     }
 
+    /// No two Ids have one term: a law, and nothing is done.
+    pub fn is_one_to_one(&self)
+        ensures { IsOneToOne self.now }
+    {
+        let _places = &self.places;
+    }
+
     /// The term's Id.
     pub fn find(&self, term: TermRef<'_>) -> Option<Id>
         ensures found { IfSome result (λ id. map.get self.now id.0 ≡ Some (lent_term term.entry)) }

@@ -5,5 +5,5 @@ pub mod WalkLemmas
 pub mod ReleaseLemmas
 pub mod RetainLemmas
 pub mod InternLemmas
-pub mod WorkedExample
-pub mod ExampleSteps
+pub mod OpenLemmas
+pub mod KeepLemmas

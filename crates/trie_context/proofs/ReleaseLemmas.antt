@@ -1,5 +1,5 @@
 -- Edges given up one by one, and a row given up with its edges.
-use Rattle.std.specs.Prelude.{◌≡◌, ℕ, ◌+◌, ◌-◌, ◌<◌, ◌≤◌, refl, true, false, List, [], ◌∷◌, Option, None, Some, IfSome, IsSome}
+use Rattle.std.specs.Prelude.{◌≡◌, ℕ, ◌+◌, ◌-◌, ◌≤◌, refl, true, false, List, [], ◌∷◌, Option, None, Some, IfSome, IsSome}
 use Rattle.std.proofs.Common.{sym, ◌∙◌, ap, subst, arith}
 use Rattle.trie_depth.specs.declared.id.Id.{Id}
 use Rattle.edge_map.specs.declared.edge.Edge.{Edge}

@@ -1,6 +1,6 @@
 -- Holds taken on the rows of edges, one edge after another.
-use Rattle.std.specs.Prelude.{◌≡◌, ℕ, ◌+◌, ◌<◌, ◌≤◌, ◌^◌, List, [], ◌∷◌, length, refl, Some}
-use Rattle.std.proofs.Common.{ap, sym, subst, arith}
+use Rattle.std.specs.Prelude.{◌≡◌, ℕ, ◌+◌, ◌≤◌, ◌^◌, List, [], ◌∷◌, length, refl, Some}
+use Rattle.std.proofs.Common.{ap, arith}
 use Rattle.std.specs.List.{All}
 use Rattle.std.specs.FinMap as map
 use Rattle.trie_depth.specs.declared.id.Id.{Id}

@@ -56,7 +56,7 @@ module _ (t : Tables) where
   beside_put (suc (suc (suc zero))) x (suc (suc (suc (suc e)))) ne = refl
   beside_put (suc (suc (suc (suc k)))) x e ne = refl
 
-  here_put : (j : ℕ) → suc j ≤ 3 → (x : Table Node) → table_at (put_table t (suc j) x) (suc j) ≡ x
+  pub here_put : (j : ℕ) → suc j ≤ 3 → (x : Table Node) → table_at (put_table t (suc j) x) (suc j) ≡ x
   here_put zero le x = refl
   here_put (suc zero) le x = refl
   here_put (suc (suc zero)) le x = refl

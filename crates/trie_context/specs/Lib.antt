@@ -1,6 +1,8 @@
 pub mod Rows
 pub mod Holds
 pub mod Kept
+pub mod Opened
+pub mod Interned
 pub mod RowLaws
 pub mod MoveLaws
 pub mod StayLaws

@@ -1,6 +1,6 @@
 -- The tables of a graph whose root has the only hold are the shape of the graph.
-use Rattle.std.specs.Prelude.{◌≡◌, ℕ, ◌+◌, ◌≤◌, Some, refl}
-use Rattle.std.proofs.Common.{sym, ◌∙◌, ap, subst, arith}
+use Rattle.std.specs.Prelude.{◌≡◌, ℕ}
+use Rattle.std.proofs.Common.{◌∙◌, arith}
 use Rattle.std.specs.Ordering.{nat_cmp}
 use Rattle.std.specs.Cmp.{nat_cmp_total as total}
 use Rattle.std.specs.Cmp.Lexicographic.{slice_cmp}
@@ -12,11 +12,11 @@ use Rattle.trie_depth.specs.Tuples.{trip_tuple}
 use Rattle.trie_context.specs.declared.root.Root.{Root}
 use Rattle.trie_context.specs.declared.root.Root.TheVariants.{Empty, One, Many}
 use Rattle.trie_context.specs.declared.tables.Tables.{Tables}
-use Rattle.trie_context.specs.Holds.{holds_of, one_at, at_depth, nothing}
+use Rattle.trie_context.specs.Holds.{holds_of, one_at}
 use Rattle.trie_context.specs.Kept.{AreKept, AreMoved}
 use Rattle.trie_context.specs.MoveLaws.{at_here, at_other}
-use Rattle.trie_context.specs.Roots.{root_set, root_hold, IsHeld}
-use Rattle.trie_context.specs.Shape.{OnlyHeld, HasShape}
+use Rattle.trie_context.specs.Roots.{root_set, root_hold}
+use Rattle.trie_context.specs.Shape.{HasShape}
 use Rattle.trie_context.specs.ShapeLaws.{exact_shape, small_shape}
 
 -- the root's hold is the only one

@@ -1,15 +1,21 @@
 //! The tables of a graph and the calls that keep them.
-ghost use Rattle.std.specs.Prelude.{◌≡◌, ◌≢◌, ℕ, ◌+◌, ◌-◌, ◌≤◌, ◌^◌, Some, IsSome, IsNone, IfSome, IfOk, OnOk, OnErr};
+ghost use Rattle.std.specs.Prelude.{◌≡◌, ◌≢◌, ℕ, ◌+◌, ◌-◌, ◌<◌, ◌≤◌, ◌^◌, Some, IsSome, IsNone, IfSome, IfOk, OnOk, IfErr, OnErr};
 ghost use Rattle.std.specs.FinMap as map;
 ghost use Rattle.edge_map.specs.declared.edge.Edge.{Edge};
-ghost use Rattle.trie_node.specs.Sets.{leads, edges_in, edges_of};
+ghost use Rattle.trie_node.specs.Sets.{leads, edges_in, edges_of, hash_of_node};
 ghost use Rattle.trie_context.specs.Rows.{no_tables, row_of, node_of, node_set, set_of, LeadsToRow};
-ghost use Rattle.trie_context.specs.Holds.{holds_of, one_at, at_depth, nothing, HasRoom, HasRoomForMap, CountsRiseBy, RowsStay};
+ghost use Rattle.trie_context.specs.Holds.{count_of, holds_of, one_at, at_depth, nothing, HasRoom, HasRoomForMap, CountsRiseBy, RowsStay};
 ghost use Rattle.trie_context.specs.Kept.{IsNode, AreKept, AreMoved};
+ghost use Rattle.trie_context.specs.Interned.{IsInterned, kept_row, came_back};
+ghost use Rattle.trie_context.specs.Opened.{IsReserved, StandsForNoRow, discarded_at, HoldsAreMoved, IsOpened, IsClosed};
 
 use crate::held::Held;
 use crate::intern::intern_row;
-use crate::release::{release_edge, release_map, release_row};
+use crate::keep::keep_row;
+use crate::kept::Kept;
+use crate::opened::{close_row, discard_place, open_row};
+use crate::place::Place;
+use crate::release::{release_edge, release_edges, release_map, release_row};
 use crate::retain::{retain_edge, retain_map, retain_row};
 use crate::tables::Tables;
 use edge_map::{Edge, EdgeMap};
@@ -88,6 +94,29 @@ impl<M: Mix> Context<M> {
         Ok(Held::new(row))
     }
 
+    /// A hold on the one row that is equal to the node, made where there was none. Where there was one, and for want of
+    /// memory, the node comes back with its edges.
+    pub fn intern_or_keep<L: Level, W: Ledger>(
+        &mut self,
+        node: Node,
+        interns: &mut Steps<W>,
+    ) -> Result<Kept<L>, (Node, Memory)>
+        requires form { IsNode M.mixed L.DEPTH (set_of self.old (L.DEPTH - 1)) node }
+        requires held { (r : ℕ) → edges_of node r ≤ holds_of self.old (L.DEPTH - 1) r }
+        requires room { HasRoom self.old }
+        ensures kept { IfOk result (λ k. IsInterned M.mixed self.old self.new L.DEPTH node (kept_row k) (came_back k)) }
+        ensures back { IfErr result (λ e. e.0 ≡ node) }
+        ensures same { OnErr result (self.new ≡ self.old) }
+        ensures ticks { interns.new ≡ interns.old + 1 }
+    {
+        interns.tick();
+        match keep_row::<M>(&mut self.tables, L::DEPTH, node) {
+            Ok((row, None)) => Ok(Kept::Made(Held::new(row))),
+            Ok((row, Some(same))) => Ok(Kept::Found(Held::new(row), same)),
+            Err(refused) => Err(refused),
+        }
+    }
+
     /// A second hold on the row.
     pub fn retain<L: Level, W: Ledger>(&mut self, held: &Held<L>, retains: &mut Steps<W>) -> Held<L>
         requires held { 1 ≤ holds_of self.old L.DEPTH held.now }
@@ -159,11 +188,64 @@ impl<M: Mix> Context<M> {
         release_map::<M>(&mut self.tables, L::DEPTH - 1, edges);
     }
 
+    /// Gives up the holds of all edges of the node.
+    pub fn release_node<L: Level>(&mut self, node: Node)
+        requires held { (r : ℕ) → edges_of node r ≤ holds_of self.old (L.DEPTH - 1) r }
+        ensures moved { AreMoved M.mixed self.old self.new nothing (at_depth (L.DEPTH - 1) (edges_of node)) }
+        ensures counts { CountsRiseBy self.old self.new nothing }
+        ensures came { RowsStay self.new self.old }
+    {
+        release_edges::<M>(&mut self.tables, L::DEPTH - 1, &node);
+    }
+
+    /// Takes out the held row, where nothing but this hold leads to it: its node comes in hand, and its number stays
+    /// reserved until the place is spent. Where more leads to the row, the hold comes back.
+    pub fn open<L: Level>(&mut self, held: Held<L>) -> Result<(Node, Place<L>), Held<L>>
+        requires held { 1 ≤ holds_of self.old L.DEPTH held }
+        ensures alone { OnOk result (count_of (row_of self.old L.DEPTH held) ≡ 1) }
+        ensures opened { IfOk result (λ o. IsOpened M.mixed self.old self.new L.DEPTH o.1 o.0) }
+        ensures number { IfOk result (λ o. o.1.number ≡ held) }
+        ensures shared { OnErr result (1 < count_of (row_of self.old L.DEPTH held)) }
+        ensures hold { IfErr result (λ h. h ≡ held) }
+        ensures same { OnErr result (self.new ≡ self.old) }
+    {
+        let row = held.into_row();
+        match open_row::<M>(&mut self.tables, L::DEPTH, row) {
+            Some((node, spot)) => Ok((node, Place::new(spot))),
+            None => Err(Held::new(row)),
+        }
+    }
+
+    /// Puts a node into the place: its row is there again, with this one hold. It takes no memory.
+    pub fn close<L: Level>(&mut self, place: Place<L>, node: Node) -> Held<L>
+        requires reserved { IsReserved self.old L.DEPTH place }
+        requires form { IsNode M.mixed L.DEPTH (set_of self.old (L.DEPTH - 1)) node }
+        requires hashed { place.hash ≡ hash_of_node M.mixed node }
+        requires none { StandsForNoRow self.old L.DEPTH node }
+        requires held { (r : ℕ) → edges_of node r ≤ holds_of self.old (L.DEPTH - 1) r }
+        ensures row { result ≡ place.number }
+        ensures closed { IsClosed M.mixed self.old self.new L.DEPTH place node }
+    {
+        let spot = place.into_spot();
+        let row = spot.number();
+        close_row::<M>(&mut self.tables, L::DEPTH, spot, node);
+        Held::new(row)
+    }
+
+    /// Gives the place up.
+    pub fn discard<L: Level>(&mut self, place: Place<L>)
+        requires reserved { IsReserved self.old L.DEPTH place }
+        ensures gone { self.new ≡ discarded_at self.old L.DEPTH place }
+        ensures moved { HoldsAreMoved M.mixed self.old self.new nothing nothing }
+    {
+        discard_place::<M>(&mut self.tables, L::DEPTH, place.into_spot());
+    }
+
     /// The row that stands for the set of the node.
     pub fn find<L: Level>(&self, node: &Node) -> Option<usize>
         requires form { IsNode M.mixed L.DEPTH (set_of self.now (L.DEPTH - 1)) node.now }
         ensures there { IfSome result (λ r. node_of self.now L.DEPTH r ≡ Some node.now) }
-        ensures none { IsNone result → (r : ℕ) → IsSome (row_of self.now L.DEPTH r) → set_of self.now L.DEPTH r ≢ node_set L.DEPTH (set_of self.now (L.DEPTH - 1)) node.now }
+        ensures none { IsNone result → StandsForNoRow self.now L.DEPTH node.now }
     {
         self.tables.find_equal(L::DEPTH, node, node.hash_of::<M>())
     }

@@ -1,5 +1,6 @@
 //! A hold on a row.
-ghost use Rattle.std.specs.Prelude.{◌≡◌};
+ghost use Rattle.std.specs.Prelude.{◌≡◌, ◌≢◌};
+ghost use Rattle.trie_depth.specs.declared.id.Id.{Id};
 ghost use Rattle.edge_map.specs.declared.edge.Edge.{Edge};
 
 use edge_map::Edge;
@@ -27,6 +28,17 @@ impl<L: Level> Held<L> {
         Held {
             row,
             level: PhantomData,
+        }
+    }
+
+    /// The hold that an edge has, which leads to a row of the level.
+    pub fn of_edge(edge: Edge) -> Held<L>
+        requires { (x : Id) → edge ≢ Edge.Key x }
+        ensures { edge ≡ Edge.Node result }
+    {
+        match edge {
+            Edge::Node(row) => Held::new(row),
+            Edge::Key(_) => unreachable!(),
         }
     }
 

@@ -4,6 +4,7 @@
 //! `specs/Rows.antt` says which set a row stands for, `specs/Holds.antt` what a hold is, and
 //! `specs/Kept.antt` what holds of the tables before and after each call. `specs/ShapeLaws.antt` proves that kept
 //! tables in which one row of depth three is held, and nothing else, have exactly the rows of the shape of its set.
+//! `specs/Opened.antt` says what an opened row is, and `specs/Interned.antt` when a node comes back.
 //! A crate above, which makes several calls in a row, finds laws in `specs/MoveLaws.antt`, `specs/StayLaws.antt`,
 //! `specs/EdgeLaws.antt` and `specs/NodeLaws.antt`.
 #![tactic(auto)]
@@ -11,14 +12,18 @@
 mod context;
 mod held;
 mod intern;
+mod keep;
+mod kept;
+mod opened;
+mod place;
 mod release;
 mod retain;
 mod root;
 mod tables;
-#[cfg(test)]
-mod tests;
 
 pub use context::Context;
 pub use held::Held;
+pub use kept::Kept;
+pub use place::Place;
 pub use root::Root;
 pub use tables::Tables;

@@ -1,9 +1,10 @@
 //! The tables of the three depths, and their calls by the number of the depth.
 ghost use Rattle.std.specs.Prelude.{◌≡◌, ◌+◌, ◌-◌, ◌<◌, ◌≤◌, ◌^◌, None, IsSome, IsNone, IfSome, IfOk, OnErr, IfErr};
-ghost use Rattle.node_table.specs.Table.{with_row, without_row, HasNoNode, HasNoNodeUnder};
+ghost use Rattle.node_table.specs.Table.{with_row, without_row, reserved_at, HasNoNode, HasNoNodeUnder};
 ghost use Rattle.trie_context.specs.Rows.{no_tables, table_at, put_table, row_of};
+ghost use Rattle.trie_context.specs.Opened.{IsReserved, opened_at, closed_at, discarded_at};
 
-use node_table::Table;
+use node_table::{Spot, Table};
 use std::alloc::Global;
 use trie_depth::Memory;
 use trie_node::Node;
@@ -104,5 +105,40 @@ impl Tables {
         ensures gone { self.new ≡ put_table self.old depth (without_row (table_at self.old depth) row) }
     {
         at_depth!(self, depth, remove(row))
+    }
+
+    /// Takes the row out; its number stays reserved.
+    pub(crate) fn take_out(&mut self, depth: usize, row: usize) -> (Node, Spot)
+        requires low { 1 ≤ depth }
+        requires high { depth ≤ 3 }
+        requires there { IsSome (row_of self.old depth row) }
+        requires last { IfSome (row_of self.old depth row) (λ r. r.count ≡ 1) }
+        ensures node { IfSome (row_of self.old depth row) (λ r. r.node ≡ result.0) }
+        ensures hash { IfSome (row_of self.old depth row) (λ r. r.hash ≡ result.1.hash) }
+        ensures number { result.1.number ≡ row }
+        ensures free { reserved_at (table_at self.old depth) row ≡ None }
+        ensures gone { self.new ≡ opened_at self.old depth result.1 }
+    {
+        at_depth!(self, depth, take_out(row))
+    }
+
+    pub(crate) fn put_back(&mut self, depth: usize, spot: Spot, node: Node)
+        requires low { 1 ≤ depth }
+        requires high { depth ≤ 3 }
+        requires reserved { IsReserved self.old depth spot }
+        requires new { HasNoNode (table_at self.old depth) node }
+        ensures fresh { row_of self.old depth spot.number ≡ None }
+        ensures back { self.new ≡ closed_at self.old depth spot node }
+    {
+        at_depth!(self, depth, put_back(spot, node))
+    }
+
+    pub(crate) fn drop_spot(&mut self, depth: usize, spot: Spot)
+        requires low { 1 ≤ depth }
+        requires high { depth ≤ 3 }
+        requires reserved { IsReserved self.old depth spot }
+        ensures { self.new ≡ discarded_at self.old depth spot }
+    {
+        at_depth!(self, depth, drop_spot(spot))
     }
 }

@@ -5,8 +5,6 @@
 
 mod hash;
 mod node;
-#[cfg(test)]
-mod tests;
 
 pub use hash::toggled;
 pub use node::Node;

@@ -12,6 +12,4 @@ mod HoldLemmas
 mod TripleLemmas
 mod PositionLemmas
 mod PartLemmas
-mod HistoryLemmas
-mod ExampleBatches
 mod LoneLemmas

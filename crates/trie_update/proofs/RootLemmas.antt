@@ -1,6 +1,6 @@
 -- The root of a graph, put in the place of another.
-use Rattle.std.specs.Prelude.{◌≡◌, ℕ, ◌+◌, ◌≤◌, ◌||◌, Bool, true, false, List, [], ◌∷◌, ◌++◌, length, refl, Some, option_map, OnOk}
-use Rattle.std.proofs.Common.{◌⊎◌, length-append, inl, inr, sym, ◌∙◌, ap, subst, arith, Result, Ok, Err}
+use Rattle.std.specs.Prelude.{◌≡◌, ℕ, ◌+◌, ◌≤◌, ◌||◌, Bool, true, false, List, [], ◌∷◌, ◌++◌, length, refl, Some, option_map}
+use Rattle.std.proofs.Common.{◌⊎◌, length-append, inl, inr, sym, ◌∙◌, ap, subst, arith}
 use Rattle.std.proofs.lemmas.Cmp.{lists_total}
 use Rattle.std.proofs.lemmas.List.{map-append}
 use Rattle.std.specs.Ordering.{nat_cmp}
@@ -151,8 +151,3 @@ module _ {mixed : ℕ → ℕ → ℕ → ℕ → ℕ} {t m : Tables} (old new :
       held = subst (IsHeld u) (sym is) new_held;
       stay = beside_stays;
     }
-
--- what holds on success has its consequences on success
-pub on_ok : {T E : Type 0} {P Q : Type 0} (r : Result T E) → (P → Q) → OnOk r P → OnOk r Q
-on_ok (Ok x) f p = f p
-on_ok (Err e) f p = tt

@@ -14,8 +14,6 @@ mod levels;
 mod pair_map;
 mod pairs;
 mod runs;
-#[cfg(test)]
-mod tests;
 mod triple_map;
 mod triples;
 mod update;

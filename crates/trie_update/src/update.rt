@@ -7,9 +7,7 @@ ghost use Rattle.hypertrie_model.specs.Sets.{single};
 ghost use Rattle.trie_depth.specs.Tuples.{trip_tuple};
 ghost use Rattle.trie_context.specs.Holds.{nothing, CountsRiseBy};
 ghost use Rattle.trie_context.specs.Kept.{AreMoved};
-ghost use Rattle.trie_context.specs.RootShape.{OnlyRootHeld};
 ghost use Rattle.trie_context.specs.Roots.{root_set, root_hold, IsHeld};
-ghost use Rattle.trie_context.specs.Shape.{HasShape};
 ghost use Rattle.trie_update.specs.After.{triples_of, one_after, graph_after, one_room, with_batch, without_batch};
 ghost use Rattle.trie_update.specs.InHand.{IsInHand};
 ghost use Rattle.trie_update.specs.Batches.{IsOnce};
@@ -138,7 +136,6 @@ pub fn grow<M: Mix, W: Ledger, V: Ledger>(
     ensures set { OnOk result (root_set context.new root.new ≡ with_batch context.old root.old batch.now) }
     ensures held { IsHeld context.new root.new }
     ensures moved { OnOk result (AreMoved M.mixed context.old context.new (root_hold root.new) (root_hold root.old)) }
-    ensures shape { OnOk result (OnlyRootHeld context.old root.old → HasShape context.new (root_set context.new root.new)) }
     ensures counts { OnOk result (CountsRiseBy context.old context.new (λ _ _. 2 ^ 65)) }
     ensures stay { OnOk result (HeldStay context.old context.new (root_hold root.old)) }
     ensures tables { OnErr result (context.new ≡ context.old) }
@@ -165,7 +162,6 @@ pub fn shrink<M: Mix, W: Ledger, V: Ledger>(
     ensures set { OnOk result (root_set context.new root.new ≡ without_batch context.old root.old batch.now) }
     ensures held { IsHeld context.new root.new }
     ensures moved { OnOk result (AreMoved M.mixed context.old context.new (root_hold root.new) (root_hold root.old)) }
-    ensures shape { OnOk result (OnlyRootHeld context.old root.old → HasShape context.new (root_set context.new root.new)) }
     ensures counts { OnOk result (CountsRiseBy context.old context.new (λ _ _. 2 ^ 65)) }
     ensures stay { OnOk result (HeldStay context.old context.new (root_hold root.old)) }
     ensures tables { OnErr result (context.new ≡ context.old) }

@@ -1,1 +1,5 @@
 mod Grown
+mod History
+mod Batches
+mod KeysAndPairs
+mod HoldSteps

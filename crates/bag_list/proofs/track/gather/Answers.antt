@@ -27,3 +27,6 @@ loop-i-preserved g c =
 
 pub returns-clause-some : goal.returns-clause-some
 returns-clause-some g c s = c.loop-i.invariant.some s.0 (let lt = s.1 in omega (arith, lt)) s.2
+
+pub returns-clause-whole : goal.returns-clause-whole
+returns-clause-whole g c k admit i t p lt = c.loop-i.invariant.whole k admit i t p (omega (arith, lt, c.loop-i-test.false))

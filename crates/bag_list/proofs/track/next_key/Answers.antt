@@ -1,6 +1,6 @@
 use Rattle.std.proofs.Common.{ap, arith}
 use Rattle.bag_list.specs.Levels.{from_of}
-use Rattle.bag_list.proofs.TrackLemmas.{not_past, weaker_least}
+use Rattle.bag_list.proofs.TrackLemmas.{not_past, weaker_found, weaker_least}
 use Rattle.bag_list.proofs.track.next_key.Goals as goal
 
 pub returns-in_err-from-clause-none : goal.returns-in_err-from-clause-none
@@ -14,3 +14,6 @@ returns-clause-none g c none k le admit =
 
 pub returns-clause-least : goal.returns-clause-least
 returns-clause-least g c = weaker_least c.next_common.result _ _ _ _ (let is = ap from_of c.in_ok-from.was in omega (arith, is)) c.gather-count.ensures.asked c.next_common.ensures.least
+
+pub returns-clause-admitted : goal.returns-clause-admitted
+returns-clause-admitted g c = weaker_found c.next_common.result _ _ c.gather-count.ensures.whole c.next_common.ensures.common

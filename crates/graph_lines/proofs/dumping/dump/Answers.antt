@@ -1,12 +1,17 @@
-use Rattle.std.proofs.Common.{sym, subst}
-use Rattle.graph_image.specs.Images.{AreKnown}
+use Rattle.std.proofs.Common.{[], ◌∙◌, ap, refl}
+use Rattle.std.proofs.lemmas.Result.{IfOk-weaker}
+use Rattle.rdf_model.specs.Texts.{dump_line}
+use Rattle.rdf_model.specs.Graph.{triples_total, exact_triples}
+use Rattle.rdf_model.specs.Sorting.{in_order}
+use Rattle.rdf_model.specs.MemberLaws.{members_in_order}
 use Rattle.graph_view.specs.ReadLaws.{one_known, triples_known}
+use Rattle.graph_view.specs.Views.{graph_in, triples_in}
+use Rattle.graph_lines.proofs.DumpLemmas.{lines_read}
 use Rattle.graph_lines.proofs.dumping.dump.Goals as goal
 
-pub lines_of-requires-clause-known : goal.lines_of-requires-clause-known
-lines_of-requires-clause-known c =
+pub returns : goal.returns
+returns c =
     let v = c.args.graph in
-    subst (AreKnown v.all.dict.now) (sym c.operand.ensures.set) (triples_known v.all.tables.now v.all.dict.now v.root.now v.known)
-
-pub lines_of-requires-clause-one : goal.lines_of-requires-clause-one
-lines_of-requires-clause-one c = one_known c.args.graph.all.tables.now c.args.graph.all.dict.now c.args.graph.all.known
+    let terms = v.all.dict.now in
+    let texts = lines_read terms (one_known v.all.tables.now terms v.all.known) (triples_in v) (triples_known v.all.tables.now terms v.root.now v.known) [] c.new-texts.result.items c.add_lines.new.lines.items refl c.new-texts.ensures.items c.in_ok-add_lines.ensures in
+    IfOk-weaker c.sorted_lines.result _ _ (λ lines order. order ∙ ap in_order texts.2 ∙ members_in_order triples_total exact_triples dump_line (graph_in v) texts.0 texts.1) c.sorted_lines.ensures

@@ -1,10 +1,12 @@
-use Rattle.std.proofs.Common.{◌-◌, ◌^◌}
-use Rattle.graph_lines.specs.Walks.{key_set, member_behind}
-use Rattle.graph_lines.proofs.WalkLemmas.{Walked}
+use Rattle.std.proofs.Common.{[], length}
+use Rattle.std.specs.Ordering.{nat_cmp}
+use Rattle.hypertrie_model.specs.Sets.{single}
+use Rattle.graph_lines.specs.Walks.{behind}
+use Rattle.graph_lines.proofs.EdgeWalks.{WalkedTo}
 use Rattle.graph_lines.proofs.members.add_keys.Given as goal
 
 abbrev pub invariant-loop-key : goal.invariant-loop-key
-invariant-loop-key l = Walked (member_behind l.dict l.before) (key_set l.keys) l.from.0 l.fn.members.items l.members.items
+invariant-loop-key l = WalkedTo l.keys (λ _. single nat_cmp []) (behind l.style l.dict l.before) l.fn.texts.items l.walk l.texts.items
 
 abbrev pub decreases-loop-key : goal.decreases-loop-key
-decreases-loop-key l = 2 ^ 32 - l.from.0
+decreases-loop-key l = length l.walk

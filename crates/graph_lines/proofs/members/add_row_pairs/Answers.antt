@@ -6,7 +6,7 @@ use Rattle.trie_context.specs.Rows.{set_of}
 use Rattle.trie_context.specs.NodeLaws.{node_set_is}
 use Rattle.tuple_image.specs.TupleImages.{IsOver}
 use Rattle.graph_view.specs.Read.{has_id}
-use Rattle.graph_lines.specs.Walks.{AddsTexts, member_behind}
+use Rattle.graph_lines.specs.Walks.{AddsTexts, behind}
 use Rattle.graph_lines.proofs.MemberLemmas.{added_single, pair_known, row_node, edge_leads}
 use Rattle.graph_lines.proofs.members.add_row_pairs.Goals as goal
 
@@ -42,6 +42,6 @@ returns-in_ok-push-in-Single c =
     let t = c.args.all.tables.now in
     let node = row_node t 2 c.args.row c.requires.there c.node.result.now c.node.ensures in
     let is = node_set_is t 1 c.args.row c.node.result.now node ∙ ap (set_over (set_of t 1)) c.in-Single.is in
-    let pushed = c.in_ok-push-in-Single.ensures.items ∙ ap (λ (w : Text). c.args.members.now.items ++ w ∷ []) c.in_ok-pair_text-in-Single.ensures in
-    subst (λ S. AddsTexts (member_behind c.args.all.dict.now []) S c.args.members.now.items c.push.new.self.items) (sym is)
-    (added_single (member_behind c.args.all.dict.now []) (pair_tuple c.in-Single.pair) c.args.members.now.items c.push.new.self.items pushed)
+    let pushed = c.in_ok-push-in-Single.ensures.items ∙ ap (λ (w : Text). c.args.texts.now.items ++ w ∷ []) c.in_ok-pair_text-in-Single.ensures in
+    subst (λ S. AddsTexts (behind c.args.style c.args.all.dict.now c.args.before.now) S c.args.texts.now.items c.push.new.self.items) (sym is)
+    (added_single (behind c.args.style c.args.all.dict.now c.args.before.now) (pair_tuple c.in-Single.pair) c.args.texts.now.items c.push.new.self.items pushed)

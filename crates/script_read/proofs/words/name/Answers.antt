@@ -1,4 +1,4 @@
-use Rattle.std.proofs.Common.{◌≡◌, ◌∙◌, ◌<◌, Some, ap, arith, length, sym}
+use Rattle.std.proofs.Common.{◌∙◌, ◌<◌, Some, ap, arith, length, sym}
 use Rattle.script_read.specs.Forms.{some_where}
 use Rattle.script_read.proofs.WordLemmas.{utf8_name, no_name}
 use Rattle.script_read.proofs.words.name.Goals as goal

@@ -1,4 +1,4 @@
-use Rattle.std.proofs.Common.{◌≡◌, ◌<◌, ◌^◌, arith, sym, true}
+use Rattle.std.proofs.Common.{◌≡◌, arith, sym, true}
 use Rattle.std.specs.Char.{is_ascii_digit}
 use Rattle.std.specs.List.{list_all}
 use Rattle.script_read.proofs.WordLemmas.{no_digits, not_parsed}

@@ -1,4 +1,4 @@
-use Rattle.std.proofs.Common.{◌≡◌, ◌+◌, ◌-◌, ◌≤◌, ℕ, arith, rules, refl, sym, subst, ap, ◌∙◌, Some, IfSome, is_some}
+use Rattle.std.proofs.Common.{◌≡◌, ◌-◌, ◌≤◌, ℕ, arith, rules, refl, sym, subst, ap, ◌∙◌, Some, IfSome, is_some}
 use Rattle.node_table.specs.Table.{Row, with_row, without_row}
 use Rattle.trie_node.specs.declared.node.Node.{Node}
 use Rattle.trie_node.specs.Sets.{edges_of}

@@ -1,4 +1,4 @@
-use Rattle.std.proofs.Common.{◌≡◌, ◌+◌, ◌-◌, ◌*◌, ◌^◌, ◌<◌, ℕ, length}
+use Rattle.std.proofs.Common.{◌≡◌, ◌+◌, ◌*◌, ◌<◌, ℕ, length}
 use Rattle.trie_node.specs.Sets.{edges_in}
 use Rattle.trie_context.specs.Rows.{table_at}
 use Rattle.trie_context.specs.Holds.{at_depth, nothing, CountsRiseBy, RowsStay}

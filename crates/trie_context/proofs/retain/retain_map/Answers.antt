@@ -1,5 +1,4 @@
-use Rattle.std.proofs.Common.{◌≡◌, ◌+◌, ◌≤◌, ◌^◌, ap, arith, length, is_some}
-use Rattle.std.specs.FinMap as map
+use Rattle.std.proofs.Common.{ap, arith, length, is_some}
 use Rattle.trie_context.proofs.WalkLemmas.{walked_edges, walked_length}
 use Rattle.trie_context.proofs.RetainLemmas.{retained_none, retained_room, next_there, retained_next, retained_moved, retained_counts, retained_few}
 use Rattle.trie_context.proofs.retain.retain_map.Goals as goal

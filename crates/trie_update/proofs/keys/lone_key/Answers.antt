@@ -1,4 +1,3 @@
-use Rattle.std.proofs.Common.{length}
 use Rattle.trie_update.specs.Batches.{pair_rest}
 use Rattle.trie_update.proofs.LoneLemmas.{lone_after}
 use Rattle.trie_update.proofs.keys.lone_key.Goals as goal

@@ -1,4 +1,3 @@
-use Rattle.std.proofs.Common.{◌≡◌}
 use Rattle.trie_update.proofs.LoneLemmas.{lone_given, lone_stands}
 use Rattle.trie_update.proofs.PairLemmas.{on_err}
 use Rattle.trie_update.proofs.pairs.put_pair.Goals as goal

@@ -3,10 +3,8 @@ use Rattle.std.specs.Cmp.{nat_cmp_total as total}
 use Rattle.std.specs.FinMap.{nat_cmp-IsAntisymmetric as exact}
 use Rattle.hypertrie_model.specs.SliceSizes.{len-union_parts}
 use Rattle.trie_depth.specs.Tuples.{trip_tuple}
-use Rattle.trie_context.specs.RootShape.{changed_shape}
 use Rattle.trie_context.specs.Roots.{root_set}
 use Rattle.trie_update.specs.Batches.{set_of_entries}
-use Rattle.trie_update.proofs.RootLemmas.{on_ok}
 use Rattle.trie_update.proofs.update.shrink.Goals as goal
 
 pub update-requires-clause-size : goal.update-requires-clause-size
@@ -14,6 +12,3 @@ update-requires-clause-size g c = omega (arith, c.requires.size, len-union_parts
 
 pub update-requires-clause-batch : goal.update-requires-clause-batch
 update-requires-clause-batch g c = omega (arith, c.requires.size, c.requires.once, len-union_parts total exact (root_set c.args.context.now c.args.root.now) (set_of_entries trip_tuple c.args.batch.now))
-
-pub returns-clause-shape : goal.returns-clause-shape
-returns-clause-shape g c = on_ok c.update.result (changed_shape g.M.Mix.mixed c.args.context.now c.update.new.context c.args.root.now c.update.new.root) c.update.ensures.moved

@@ -1,4 +1,5 @@
-use Rattle.std.proofs.Common.{◌≡◌, ◌+◌, ◌-◌, ◌<◌, ◌≤◌, ℕ, false, length, slice_index_or, slice_set, take, refl, sym, ◌∙◌, ap, subst, arith}
+use Rattle.std.proofs.Common.{◌≡◌, ◌==◌, ◌+◌, ◌-◌, ◌<◌, ◌≤◌, ℕ, false, length, slice_index_or, slice_set, take, refl, sym, ◌∙◌, ap, subst, arith}
+use Rattle.std.proofs.lemmas.Bool.Decides.{nat_tests}
 use Rattle.std.proofs.lemmas.List.{get_or_default, length-set, with_items_is}
 use Rattle.std.proofs.lemmas.List.Sorted.{IsPermutation-refl}
 use Rattle.std.specs.List.{AllByRecursion}
@@ -15,6 +16,9 @@ use Rattle.bag_list.proofs.GoLemmas.{kept-back, kept-last, last-asked, last-smal
 use Rattle.bag_list.proofs.Places.{permutation-equal}
 use Rattle.bag_list.proofs.SearchLemmas.{kept-entered, kept-equal, rests-same}
 use Rattle.bag_list.proofs.search.Search.go_on.Goals as goal
+
+not_last : (depth n : ℕ) → depth < n → (depth == n) ≡ false
+not_last depth n lt = grind (arith, nat_tests)
 
 pub next_key-requires-clause-some : goal.next_key-requires-clause-some
 next_key-requires-clause-some g c =
@@ -67,16 +71,16 @@ pub returns-in-Some-clause-less : goal.returns-in-Some-clause-less
 returns-in-Some-clause-less g c =
     let s = c.args.self.now in
     let f : Level = record { label = c.index.result.now.label; key = c.in-Some.key; from = c.after.result } in
-    less-on g.O.Operand.depth_of g.O.Operand.tuples (tells s.columns.items s.distinct) s.levels.items s.depth s.fresh s.told s.tracks.items s.values.items c.requires.kept.kept c.requires.stale c.requires.deep c.index.result.now f c.enter_all-self.result c.index.ensures c.in-Some.ensures.from c.in-Some.ensures.small c.after.ensures
+    less-on g.O.Operand.depth_of g.O.Operand.tuples (tells s.columns.items s.distinct) s.levels.items s.depth s.fresh s.told s.tracks.items s.values.items c.requires.kept.kept c.requires.stale c.requires.deep c.index.result.now f c.enter_next-self.result c.index.ensures c.in-Some.ensures.from c.in-Some.ensures.small c.after.ensures
 
 pub returns-in-Some-clause-same : goal.returns-in-Some-clause-same
 returns-in-Some-clause-same g c =
     let s = c.args.self.now in
-    let n : length c.enter_all-self.new.tracks ≡ length s.tracks.items = c.enter_all-self.auto.tracks ∙ ap length c.deref_mut-in-Some.ensures.value in
-    let same = subst (λ ts. (i : ℕ) (t : Track _) → i < length ts → IsSameTo (s.depth - 1) (slice_index_or ts i t) (slice_index_or c.enter_all-self.new.tracks i t)) c.deref_mut-in-Some.ensures.value c.enter_all-self.ensures.same in
+    let n : length c.enter_next-self.new.tracks ≡ length s.tracks.items = c.enter_next-self.auto.tracks ∙ ap length c.deref_mut-in-Some.ensures.value in
+    let same = subst (λ ts. (i : ℕ) (t : Track _) → i < length ts → IsSameTo (s.depth - 1) (slice_index_or ts i t) (slice_index_or c.enter_next-self.new.tracks i t)) c.deref_mut-in-Some.ensures.value c.enter_next-self.ensures.same in
     record {
       n = length-set s.levels.items (s.depth - 1) _;
-      rests = ap (rests g.O.Operand.tuples) (with_items_is s.tracks c.enter_all-self.new.tracks (n ∙ sym s.tracks.ok.0)) ∙ rests-same g.O.Operand.tuples s.tracks.items c.enter_all-self.new.tracks n (λ i t lt. (same i t lt).start);
+      rests = ap (rests g.O.Operand.tuples) (with_items_is s.tracks c.enter_next-self.new.tracks (n ∙ sym s.tracks.ok.0)) ∙ rests-same g.O.Operand.tuples s.tracks.items c.enter_next-self.new.tracks n (λ i t lt. (same i t lt).start);
       columns = refl;
       distinct = refl;
     }
@@ -86,20 +90,22 @@ returns-in-Some-clause-kept g c =
     let s = c.args.self.now in
     let f : Level = record { label = c.index.result.now.label; key = c.in-Some.key; from = c.after.result } in
     let k = kept-last g.O.Operand.depth_of g.O.Operand.tuples (tells s.columns.items s.distinct) s.levels.items s.depth s.fresh s.told s.tracks.items s.values.items c.requires.kept.kept c.requires.stale c.requires.deep in
-    let now = c.enter_all-self.new.tracks in
-    let n : length c.enter_all-self.new.tracks ≡ length s.tracks.items = c.enter_all-self.auto.tracks ∙ ap length c.deref_mut-in-Some.ensures.value in
-    let tracks = with_items_is s.tracks c.enter_all-self.new.tracks (n ∙ sym s.tracks.ok.0) in
-    let same = subst (λ ts. (i : ℕ) (t : Track _) → i < length ts → IsSameTo (s.depth - 1) (slice_index_or ts i t) (slice_index_or c.enter_all-self.new.tracks i t)) c.deref_mut-in-Some.ensures.value c.enter_all-self.ensures.same in
+    let now = c.enter_next-self.new.tracks in
+    let n : length c.enter_next-self.new.tracks ≡ length s.tracks.items = c.enter_next-self.auto.tracks ∙ ap length c.deref_mut-in-Some.ensures.value in
+    let tracks = with_items_is s.tracks c.enter_next-self.new.tracks (n ∙ sym s.tracks.ok.0) in
+    let same = subst (λ ts. (i : ℕ) (t : Track _) → i < length ts → IsSameTo (s.depth - 1) (slice_index_or ts i t) (slice_index_or c.enter_next-self.new.tracks i t)) c.deref_mut-in-Some.ensures.value c.enter_next-self.ensures.same in
     let long = length-set s.levels.items (s.depth - 1) f in
     let ops : length c.next_key.new.ops ≡ length s.ops.items = c.next_key.auto.ops ∙ ap length c.deref_mut.ensures.value in
     let masks : length c.next_key.new.masks ≡ length s.masks.items = c.next_key.auto.masks ∙ ap length c.deref_mut-2.ensures.value in
     let within : s.depth - 1 < length s.levels.items = let w = c.requires.kept.kept.within in let d = c.requires.deep in omega (arith, w, d) in
     record {
-      kept = kept-equal g.O.Operand.depth_of g.O.Operand.tuples (tells s.columns.items s.distinct) (slice_set s.levels.items (s.depth - 1) f) (s.depth - 1 + 1) s.depth c.enter_all-self.result s.told now _ (slice_set s.values.items f.label f.key) (slice_set s.values.items c.from.result f.key)
+      kept = kept-equal g.O.Operand.depth_of g.O.Operand.tuples (tells s.columns.items s.distinct) (slice_set s.levels.items (s.depth - 1) f) (s.depth - 1 + 1) s.depth c.enter_next-self.result s.told now _ (slice_set s.values.items f.label f.key) (slice_set s.values.items c.from.result f.key)
           (let d = c.requires.deep in omega (arith, d)) tracks (ap (λ l. slice_set s.values.items l f.key) c.from.ensures)
-          (kept-entered g.O.Operand.depth_of g.O.Operand.tuples (tells s.columns.items s.distinct) s.levels.items s.told s.tracks.items s.values.items (s.depth - 1) f now c.enter_all-self.result k
+          (kept-entered g.O.Operand.depth_of g.O.Operand.tuples (tells s.columns.items s.distinct) s.levels.items s.told s.tracks.items s.values.items (s.depth - 1) f now c.enter_next-self.result k
           (λ h. ap (λ x. x.label) (c.index.ensures ∙ get_or_default s.levels.items (s.depth - 1) c.index.result.now h within)) c.after.ensures c.in-Some.ensures.small n same
-          (λ e. subst (λ ts. (i : ℕ) (t : Track _) (p : Part _) → i < length ts → IsFixed g.O.Operand.depth_of g.O.Operand.tuples f.label f.key.0 (part_at ts (s.depth - 1) i t p) (part_at c.enter_all-self.new.tracks (s.depth - 1 + 1) i t p)) c.deref_mut-in-Some.ensures.value (c.enter_all-self.ensures.some e)));
+          (λ e before. subst (λ ts. (i : ℕ) (t : Track _) (p : Part _) → i < length ts → IsFixed g.O.Operand.depth_of g.O.Operand.tuples f.label f.key.0 (part_at ts (s.depth - 1) i t p) (part_at c.enter_next-self.new.tracks (s.depth - 1 + 1) i t p)) c.deref_mut-in-Some.ensures.value
+          (c.enter_next-self.ensures.some e (not_last s.depth c.len.result (let n = c.len.ensures in let d = c.requires.deep in omega (arith, n, long, d, before)))))
+          (subst (λ ts. AllAdmitAt g.O.Operand.tuples ts (s.depth - 1) f.label f.key.0) c.deref.ensures.value c.in-Some.ensures.admitted));
       few = let few = c.requires.kept.few in omega (arith, few, long);
       columns = subst (λ m. AllByRecursion (λ v. IfSome v (λ l. l < m)) s.columns.items) (sym long) c.requires.kept.columns;
       n_ops = ap length (with_items_is s.ops c.next_key.new.ops (ops ∙ sym s.ops.ok.0)) ∙ ops ∙ c.requires.kept.n_ops ∙ sym n ∙ sym (ap length tracks);
@@ -113,14 +119,14 @@ returns-in-Some-clause-coming g c =
     let f : Level = record { label = c.index.result.now.label; key = c.in-Some.key; from = c.after.result } in
     let T = id_solutions (length s.levels.items) (rests g.O.Operand.tuples s.tracks.items) in
     let k = kept-last g.O.Operand.depth_of g.O.Operand.tuples (tells s.columns.items s.distinct) s.levels.items s.depth s.fresh s.told s.tracks.items s.values.items c.requires.kept.kept c.requires.stale c.requires.deep in
-    let n : length c.enter_all-self.new.tracks ≡ length s.tracks.items = c.enter_all-self.auto.tracks ∙ ap length c.deref_mut-in-Some.ensures.value in
-    let same = subst (λ ts. (i : ℕ) (t : Track _) → i < length ts → IsSameTo (s.depth - 1) (slice_index_or ts i t) (slice_index_or c.enter_all-self.new.tracks i t)) c.deref_mut-in-Some.ensures.value c.enter_all-self.ensures.same in
-    let patterns = ap (rests g.O.Operand.tuples) (with_items_is s.tracks c.enter_all-self.new.tracks (n ∙ sym s.tracks.ok.0)) ∙ rests-same g.O.Operand.tuples s.tracks.items c.enter_all-self.new.tracks n (λ i t lt. (same i t lt).start) in
+    let n : length c.enter_next-self.new.tracks ≡ length s.tracks.items = c.enter_next-self.auto.tracks ∙ ap length c.deref_mut-in-Some.ensures.value in
+    let same = subst (λ ts. (i : ℕ) (t : Track _) → i < length ts → IsSameTo (s.depth - 1) (slice_index_or ts i t) (slice_index_or c.enter_next-self.new.tracks i t)) c.deref_mut-in-Some.ensures.value c.enter_next-self.ensures.same in
+    let patterns = ap (rests g.O.Operand.tuples) (with_items_is s.tracks c.enter_next-self.new.tracks (n ∙ sym s.tracks.ok.0)) ∙ rests-same g.O.Operand.tuples s.tracks.items c.enter_next-self.new.tracks n (λ i t lt. (same i t lt).start) in
     let long = length-set s.levels.items (s.depth - 1) f in
     let least = subst (λ ts. (q : ℕ) → from_of c.index.result.now.from ≤ q → q < c.in-Some.key.0 → AllAdmitAt g.O.Operand.tuples ts (s.depth - 1) c.index.result.now.label q → ⊥) c.deref.ensures.value c.in-Some.ensures.least in
     let last : s.depth ≡ s.depth - 1 + 1 = let d = c.requires.deep in omega (arith, d) in
-    permutation-equal (to_come T (take (s.depth - 1 + 1) s.levels.items) false) _ (to_come T (take (s.depth - 1 + 1) (slice_set s.levels.items (s.depth - 1) f)) c.enter_all-self.result) _
+    permutation-equal (to_come T (take (s.depth - 1 + 1) s.levels.items) false) _ (to_come T (take (s.depth - 1 + 1) (slice_set s.levels.items (s.depth - 1) f)) c.enter_next-self.result) _
     (to_come-last g.O.Operand.depth_of g.O.Operand.tuples (tells s.columns.items s.distinct) s.levels.items s.depth s.fresh s.told s.tracks.items s.values.items c.requires.kept.kept c.requires.stale c.requires.deep T)
-    (λ j. to_come (id_solutions (long j) (patterns j)) (take (last j) (slice_set s.levels.items (s.depth - 1) f)) c.enter_all-self.result)
-    (went-on g.O.Operand.depth_of g.O.Operand.tuples g.met.O.Operand.deep (tells s.columns.items s.distinct) s.levels.items s.told s.tracks.items s.values.items (s.depth - 1) k c.index.result.now c.index.ensures f c.enter_all-self.result refl c.after.ensures c.in-Some.ensures.from least
-    (λ e. subst (λ ts. AllAdmitAt g.O.Operand.tuples ts (s.depth - 1) f.label f.key.0 → ⊥) c.deref_mut-in-Some.ensures.value (c.enter_all-self.ensures.none e)))
+    (λ j. to_come (id_solutions (long j) (patterns j)) (take (last j) (slice_set s.levels.items (s.depth - 1) f)) c.enter_next-self.result)
+    (went-on g.O.Operand.depth_of g.O.Operand.tuples g.met.O.Operand.deep (tells s.columns.items s.distinct) s.levels.items s.told s.tracks.items s.values.items (s.depth - 1) k c.index.result.now c.index.ensures f c.enter_next-self.result refl c.after.ensures c.in-Some.ensures.from least
+    (λ e. subst (λ ts. AllAdmitAt g.O.Operand.tuples ts (s.depth - 1) f.label f.key.0 → ⊥) c.deref_mut-in-Some.ensures.value (c.enter_next-self.ensures.none e)))

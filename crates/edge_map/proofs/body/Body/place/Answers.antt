@@ -1,4 +1,4 @@
-use Rattle.std.proofs.Common.{◌≤◌, arith, length, subst}
+use Rattle.std.proofs.Common.{◌≤◌, arith, subst}
 use Rattle.edge_map.proofs.PlaceLemmas.{place_is}
 use Rattle.edge_map.proofs.body.Body.place.Goals as goal
 

@@ -7,6 +7,6 @@ invariant_of-result g c = record {
   known = ∣ record {
     mixed = g.M.Mix.mixed;
     kept = subst (AreKept g.M.Mix.mixed) (sym c.tables.ensures.same) c.tables.ensures.kept;
-    one = c.len.ensures.one;
+    one = c.is_one_to_one.ensures;
   } ∣₁;
 }

@@ -2,8 +2,7 @@ use Rattle.std.proofs.Common.{rules, arith, ◌≡◌, ◌∙◌, sym, ap, false
 use Rattle.std.specs.Prelude.{[], Ok}
 use Rattle.tn_io.specs.CutterState.{whole_to_come}
 use Rattle.script_read.specs.ScriptState.{State, not_yet}
-use Rattle.script_read.specs.ScriptCalls.{Takes}
-use Rattle.script_read.proofs.ScriptLemmas.{takes_both, takes_same, next_is, fails, too_long, last_is, ended_is}
+use Rattle.script_read.proofs.ScriptLemmas.{takes_both, takes_same, next_is, fails, too_long, last_is}
 use Rattle.script_read.proofs.script.Script.next_line.Goals as goal
 
 pub returns-in-Some-clause-next : goal.returns-in-Some-clause-next

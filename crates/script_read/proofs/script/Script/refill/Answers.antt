@@ -1,6 +1,5 @@
-use Rattle.std.proofs.Common.{rules, arith, ◌≡◌, ◌∙◌, ℕ, List, take, length, length-take, length-append, refl, sym, ap, subst, false, true}
+use Rattle.std.proofs.Common.{arith, ◌∙◌, ℕ, List, ap}
 use Rattle.script_read.specs.ScriptState.{State}
-use Rattle.script_read.specs.ScriptCalls.{Takes}
 use Rattle.script_read.proofs.ScriptLemmas.{takes_none, none_ahead, refill_over, refill_more}
 use Rattle.script_read.proofs.script.Script.refill.Goals as goal
 

@@ -1,0 +1,4 @@
+pub mod Firsts
+pub mod Lexed
+pub mod Meant
+pub mod Queries

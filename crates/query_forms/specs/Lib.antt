@@ -1,0 +1,4 @@
+pub mod Insides
+pub mod Laws
+pub mod Lexing
+pub mod Whole

@@ -1,0 +1,21 @@
+//! Definitions alone: the texts of SELECT queries by productions on whole texts (SPARQL 1.1, section 19): their tokens and
+//! what stands between these, what IRIs and strings mean, and the query of a text. `query_grammar` has the functions that
+//! find the same from the front; those below say that the two agree.
+#![tactic(auto)]
+
+ghost use Rattle.query_forms.specs.Laws.{LexesAsProductions, MeanAsProductions, QueriesAsProductions};
+
+/// The tokens that are found in a text are those of the productions.
+pub fn tokens_by_productions()
+    ensures { LexesAsProductions }
+{}
+
+/// What is found of IRIs and strings is what the productions say.
+pub fn texts_by_productions()
+    ensures { MeanAsProductions }
+{}
+
+/// The query that is found is the one of the productions, and none is found where they have none.
+pub fn queries_by_productions()
+    ensures { QueriesAsProductions }
+{}

@@ -1,6 +1,7 @@
 //! What is shown of a store while a script is carried out: the dump of its graph, after each command.
 ghost use Rattle.std.specs.Prelude.{◌≡◌, ◌<◌, [], List, Some, None, length, slice_get, ◌++◌, ◌∷◌, OnOk};
 ghost use Rattle.std.specs.declared.option.Option.{Option};
+ghost use Rattle.std.specs.Option.{is_some};
 ghost use Rattle.rdf_model.specs.Terms.{Text};
 ghost use Rattle.rdf_model.specs.Dumps.{dump_lines};
 ghost use Rattle.graph_store.specs.State.{IsSettled, graph};
@@ -44,7 +45,7 @@ pub struct KeepDumps {
 }
 
 impl KeepDumps {
-    ghost use Rattle.graph_store.specs.Watching.{kept, tells};
+    ghost use Rattle.graph_store.specs.Watching.{dumps_of, kept};
 
     /// A watch that was shown nothing yet.
     pub fn new(alloc: Global) -> KeepDumps
@@ -59,29 +60,29 @@ impl KeepDumps {
 
     /// Whether it still tells what it was shown.
     pub fn tells(&self) -> bool
-        ensures { tells self.now result }
+        ensures { result ≡ is_some (kept self.now) }
     {
         self.tells
     }
 
-    /// How many dumps are kept.
+    /// How many dumps are kept: while it tells, as many as it was shown.
     pub fn len(&self) -> usize
-        ensures { result ≡ length self.now.dumps.items }
+        ensures { result ≡ length (dumps_of self.now) }
     {
         self.dumps.len()
     }
 
     /// The lines of the dump at a place, from 0.
     pub fn at(&self, place: usize) -> &Lines
-        requires { place < length self.now.dumps.items }
-        ensures { slice_get self.now.dumps.items place ≡ Some result.now }
+        requires { place < length (dumps_of self.now) }
+        ensures { slice_get (dumps_of self.now) place ≡ Some result.now }
     {
         &self.dumps[place]
     }
 
     // Keeps the lines of one more dump.
     fn keep<M: Mix>(&mut self, store: &Store<M>) -> Result<(), Memory>
-        ensures kept { OnOk result (self.new.dumps.items ≡ self.old.dumps.items ++ dump_lines (graph store.now) ∷ []) }
+        ensures kept { OnOk result (dumps_of self.new ≡ dumps_of self.old ++ dump_lines (graph store.now) ∷ []) }
         ensures tells { self.new.tells ≡ self.old.tells }
     {
         let lines = store.dump(self.alloc)?;

@@ -6,5 +6,6 @@ pub mod Questions
 pub mod Places
 pub mod Runs
 pub mod Called
+pub mod Complete
 pub mod Codes
 pub mod Endings

@@ -2,9 +2,11 @@
 #![tactic(auto)]
 
 mod block;
+mod laws;
 mod outcome;
 mod question;
 mod running;
 mod tools;
 
+pub use laws::law_of_complete_runs;
 pub use running::{Status, run};

@@ -11,3 +11,5 @@ mod files;
 mod harness;
 #[cfg(test)]
 mod shapes;
+#[cfg(test)]
+mod words;

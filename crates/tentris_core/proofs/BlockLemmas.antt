@@ -302,14 +302,11 @@ sayings_length (m ∷ body) = omega (arith, sayings_length body)
 pub takes_told : (A : Around) (p : Position) (l : Line) (s now : State) (q : Place) (answer : Option Answer) (before after : Option (List ℕ)) (f g : FaultCounts) (outcome : Outcome)
     → MeetsLine A p l s now q f g answer → Tells before after outcome answer → TakesLine A p l s now q (effects before f) (effects after g) outcome
 takes_told A p l s now q answer before after f g outcome m t = record { next = m.next; after = m.after; is_at = m.is_at; leads = by answer m.leads outcome t; had = m.had } where
-  abbrev Leads : Outcome → Type 0
-  Leads o = LeadsOn A p l s m.next m.after (effects before f) (effects after g) o
-
-  some : (a : Answer) (e : EndsCommand A p l s m.next m.after) → e.answer ≡ answer_of a → IsCounted f g e.failed → (o : Outcome) → WritesAnswer before after o (answer_of a) → Leads o
+  some : (a : Answer) (e : EndsCommand A p l s m.next m.after) → e.answer ≡ answer_of a → IsCounted f g e.failed → (o : Outcome) → WritesAnswer before after o (answer_of a) → LeadsOn A p l s m.next m.after (effects before f) (effects after g) o
   some a e is counted GoesOn w = absurd w
   some a e is counted (Answered refused) w = (e, subst (WritesAnswer before after (Answered refused)) (sym is) w, counted)
   some a e is counted Cut w = (e, subst (WritesAnswer before after Cut) (sym is) w, counted)
 
-  by : (answer : Option Answer) → LeadsTo A p l s m.next m.after f g answer → (o : Outcome) → Tells before after o answer → Leads o
-  by None leads o t = subst Leads (sym t.1) (leads.0, leads.1, λ i. effects (t.0 i) (leads.2 i))
+  by : (answer : Option Answer) → LeadsTo A p l s m.next m.after f g answer → (o : Outcome) → Tells before after o answer → LeadsOn A p l s m.next m.after (effects before f) (effects after g) o
+  by None leads o t = subst (LeadsOn A p l s m.next m.after (effects before f) (effects after g)) (sym t.1) (leads.0, leads.1, λ i. effects (t.0 i) (leads.2 i))
   by (Some a) leads o t = some a leads.0 leads.1 leads.2 o t

@@ -1,10 +1,14 @@
 -- What a call of the program says, by the words and by the status.
-use Rattle.std.proofs.Common.{◌≡◌, ◌⊎◌, inl, inr, ℕ, List, refl, sym, ap, subst}
+use Rattle.std.proofs.Common.{◌≡◌, ◌⊎◌, inl, inr, ℕ, Bool, List, [], refl, sym, ap, subst}
+use Rattle.std.specs.Prelude.{Some, None}
+use Rattle.tn_io.specs.Known.{Begins}
 use Rattle.std.specs.declared.option.Option.{Option}
 use Rattle.file_model.specs.FileMap.{FileMap}
 use Rattle.command_words.specs.Answers as words
 use Rattle.command_words.specs.declared.Settings.{Settings}
 use Rattle.graph_store.specs.State.{State}
+use Rattle.line_batch.specs.Sound.{IsSound}
+use Rattle.tentris_core.specs.Carrying.{around}
 use Rattle.tentris_core.specs.Traffic.{Traffic}
 use Rattle.tentris_core.specs.Runs.{IsUntouched, Ends}
 use Rattle.tentris_core.specs.Called.{around_by, bounded_by, WritesHelp, Helps, Lacks, EndsScript, EndsHelp, EndsCall, IsByWords}
@@ -23,6 +27,15 @@ module _ (mixed : ℕ → ℕ → ℕ → ℕ → ℕ) (files : Option FileMap) 
   script_ends settings Memory t before now words memory h = absurd (memory refl)
   script_ends settings TooLong t before now words memory h = h
 
+  -- the same by what stands around, and by the store that was bounded
+  pub script_ends_of : (settings : Settings) {sorted : Bool} {most : ℕ} {z : State} (status : Status) (t : State) (before now : Traffic) → sorted ≡ settings.sort → most ≡ settings.max_bytes → z ≡ bounded_by settings s
+      → (status ≡ BadWords → ⊥) → (status ≡ Memory → ⊥) → Ends status (around mixed sorted most files) z t before now → EndsScript settings status mixed files s t before now
+  script_ends_of settings {sorted} {most} {z} status t before now sort bytes bounded words memory h =
+      script_ends settings status t before now words memory
+      (subst (λ n. Ends status (around mixed settings.sort n files) (bounded_by settings s) t before now) bytes
+      (subst (λ b. Ends status (around mixed b most files) (bounded_by settings s) t before now) sort
+      (subst (λ x. Ends status (around mixed sorted most files) x t before now) bounded h)))
+
   -- memory ran out before the script was read
   pub script_lacks : (settings : Settings) (o : Traffic) → EndsScript settings Memory mixed files s s o o
   script_lacks settings o = record { same = inl refl; still = refl }
@@ -39,7 +52,7 @@ module _ (mixed : ℕ → ℕ → ℕ → ℕ → ℕ) (files : Option FileMap) 
       → EndsCall answer status mixed files s s before (record before { written = written })
   call_helps answer status before written is h = subst (λ a. EndsCall a status mixed files s s before (record before { written = written })) (sym is) (by h.0) where
     helps : Helps s s before (record before { written = written })
-    helps = record { same = refl; help = h.1.0; still = ap (λ z. record before { written = z }) h.1.1 }
+    helps = record { same = refl; help = h.1; still = ap (λ z. record before { written = z }) h.2 }
 
     by : (status ≡ Done) ⊎ (status ≡ WriteFault) → EndsHelp status s s before (record before { written = written })
     by (inl e) = subst (λ z. EndsHelp z s s before (record before { written = written })) (sym e) helps
@@ -76,3 +89,23 @@ by_words words.refuses SomeRefused mixed files s t before now h = absurd h
 by_words words.refuses ReadFault mixed files s t before now h = absurd h
 by_words words.refuses WriteFault mixed files s t before now h = absurd h
 by_words words.refuses TooLong mixed files s t before now h = absurd h
+
+-- help, or a front of it
+pub writes_help : (before now : Option (List ℕ)) (status : Status) → (status ≡ Done) ⊎ (status ≡ WriteFault) → Begins before now → WritesHelp before now status
+writes_help None None status is h = (is, [], refl)
+writes_help None (Some now) status is h = absurd h
+writes_help (Some before) None status is h = absurd h
+writes_help (Some before) (Some now) status is h = (is, h.0, ap Some h.1)
+
+-- a store that is sound is so whatever it may have
+pub sound_bounded : {mixed : ℕ → ℕ → ℕ → ℕ → ℕ} (settings : Settings) (s : State) → IsSound mixed s → IsSound mixed (bounded_by settings s)
+sound_bounded settings s h = record {
+  settled = h.settled;
+  stands = record {
+    kept = h.stands.kept;
+    sound = h.stands.sound;
+    complete = λ d T n in_shape. let r = h.stands.complete d T n in_shape in record { number = r.number; row = r.row; there = r.there; stands = r.stands; counts = r.counts };
+    single = h.stands.single;
+    root = h.stands.root;
+  };
+}

@@ -9,8 +9,9 @@ use Rattle.rdf_model.specs.Terms.{Text}
 use Rattle.rdf_model.specs.Graph.{Graph}
 use Rattle.script_model.specs.Commands.{Change, Inserts, Deletes, Kind, Triples, Question, OneLine, Command, Block, Single, Bad, Unended, File, Generate, Dump, Stats, Shape}
 use Rattle.run_model.specs.Answers.{Refusal, Answer, Done, Dumped, Counted, Shaped, Listed, Refused, NoMemory, NoFile, is_refused}
-use Rattle.run_model.specs.Loads.{FailsAt}
-use Rattle.run_model.specs.Sayings.{Changes, sayings}
+use Rattle.text_lines.specs.Lines.{lines_of}
+use Rattle.run_model.specs.Loads.{FailsAt, generated_sayings}
+use Rattle.run_model.specs.Sayings.{Saying, Changes, sayings}
 use Rattle.run_model.specs.Worlds.{Config, World, FailedRead}
 use Rattle.run_model.specs.Steps as steps
 use Rattle.run_model.specs.Steps.{Step, Does, LineDoes, refusal_of, or_none, failed_reads}
@@ -24,19 +25,19 @@ use Rattle.tentris_core.specs.Complete.{IsFree, AreFree, AreUnraised, AreDone, R
 
 -- what a command that is carried out answers is no refusal
 
-changes_answer : (change : Change) (G : Graph) (said : List _) (H : Graph) (a : Answer) → Changes change G said H a → is_refused a ≡ false
+changes_answer : (change : Change) (G : Graph) (said : List Saying) (H : Graph) (a : Answer) → Changes change G said H a → is_refused a ≡ false
 changes_answer Inserts G said H a h = ap is_refused h.1
 changes_answer Deletes G said H a h = ap is_refused h.1
 
 line_answer : (cfg : Config) (W : World) (c : OneLine) (H : Graph) (a : Answer) → LineDoes cfg W c H a → is_refused a ≡ false
-line_answer cfg W (File change scope name) H a h = changes_answer change W.graph _ H a h.changes
-line_answer cfg W (Generate count salt) H a h = changes_answer Inserts W.graph _ H a h
+line_answer cfg W (File change scope name) H a h = changes_answer change W.graph (sayings scope (lines_of h.bytes)) H a h.changes
+line_answer cfg W (Generate count salt) H a h = changes_answer Inserts W.graph (generated_sayings count salt) H a h
 line_answer cfg W Dump H a h = ap is_refused h.1
 line_answer cfg W Stats H a h = ap is_refused h.1
 line_answer cfg W Shape H a h = ap is_refused h.1
 
 done_answer : (cfg : Config) (W : World) (c : Command) (H : Graph) (a : Answer) → Does cfg W c H a → is_refused a ≡ false
-done_answer cfg W (Block (Triples change) lines) H a h = changes_answer change W.graph _ H a h
+done_answer cfg W (Block (Triples change) lines) H a h = changes_answer change W.graph (sayings [] lines) H a h
 done_answer cfg W (Block Question lines) H a h = ap is_refused h.1.is
 done_answer cfg W (Single command) H a h = line_answer cfg W command H a h
 done_answer cfg W Bad H a h = absurd h
@@ -60,7 +61,9 @@ raised : (read : FailedRead) (front behind : List FailedRead) (before now : Faul
 raised read front behind before now h =
     let is : is_read read.name read.place read ≡ true = both in
     let more : times_failed read.name read.place (front ++ read ∷ behind) ≡ times_failed read.name read.place front + times_failed read.name read.place (read ∷ behind) = sum_by-append (λ r. cond (is_read read.name read.place r) 1 0) front (read ∷ behind) in
-    let one : times_failed read.name read.place (read ∷ behind) ≡ 1 + times_failed read.name read.place behind = ap (λ b. cond b 1 0 + times_failed read.name read.place behind) is in
+    let alone : times_failed read.name read.place (read ∷ []) ≡ 1 = rw is refl in
+    let one : times_failed read.name read.place (read ∷ behind) ≡ 1 + times_failed read.name read.place behind =
+    sum_by-append (λ r. cond (is_read read.name read.place r) 1 0) (read ∷ []) behind ∙ ap (λ n. n + times_failed read.name read.place behind) alone in
     of (times_failed read.name read.place front) (times_failed read.name read.place behind) (times_failed read.name read.place (front ++ read ∷ behind)) (before read.name read.place) (now read.name read.place)
     (more ∙ ap (λ z. times_failed read.name read.place front + z) one) (h.rose read.name read.place) where
       same : (read.place == read.place) ≡ true

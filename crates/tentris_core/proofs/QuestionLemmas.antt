@@ -28,6 +28,10 @@ use Rattle.tentris_core.specs.Puts.{WritesAnswer}
 use Rattle.line_batch.specs.Sound.{IsSound}
 use Rattle.line_batch.specs.Carrying.{Around, Carries}
 use Rattle.tentris_core.specs.Questions.{IsGathered, IsFault, AnswersQuestion}
+use Rattle.query_plan.specs.declared.query.Query as plan
+use Rattle.query_plan.specs.Seen.{query_seen}
+use Rattle.sorted_rows.specs.Sorted.{IsUncut, GivesAllRows}
+use Rattle.sorted_rows.specs.declared.cut.Cut.{Cut}
 use Rattle.std.proofs.Common.{◌≡◌, ◌∙◌, ℕ, ◌+◌, ◌<◌, ◌≤◌, not, ◌&&◌, ◌||◌, ◌==◌, Bool, true, false, cond, List, [], ◌∷◌, ◌++◌, length, refl, sym, ap, subst, arith, append_assoc, length-append}
 use Rattle.std.specs.Prelude.{Option, Some, None, nat_le, if◌then◌else◌}
 use Rattle.std.proofs.lemmas.Bool.Decides.{nat_tests}
@@ -269,3 +273,7 @@ wide_answers q G rows a = front (list_all p rows) (list_all p a.others) (sym (li
   moved =
       by_any p (rows ++ a.others) ∙ ap not (sym (list_any-IsPermutation (λ row. not (p row)) (chosen_rows q G) (rows ++ a.others) a.are))
       ∙ sym (by_any p (chosen_rows q G)) ∙ all_chosen q G
+
+-- a listing of the query without its cut may give all rows of the query
+pub all_rows_given : (q : Query) (G : Graph) (listing : Listing Term) {whole : plan.Query} {cut : Cut} → IsUncut q whole cut → ((rows : List Row) → MayGive listing rows → IsAnswerTo (query_seen whole) G rows) → GivesAllRows q G listing
+all_rows_given q G listing {whole} {cut} is answers = λ rows may. subst (λ z. IsAnswerTo z G rows) is.whole (answers rows may)

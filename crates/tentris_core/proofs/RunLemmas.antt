@@ -12,7 +12,8 @@ use Rattle.run_model.specs.Steps as steps
 use Rattle.run_model.specs.Steps.{commands_in, text_of, some_refused}
 use Rattle.rdf_model.specs.Dumps.{dump_lines}
 use Rattle.graph_store.specs.State as store
-use Rattle.graph_store.specs.State.{graph}
+use Rattle.graph_store.specs.State.{IsSettled, graph}
+use Rattle.graph_store.specs.Watching.{IsShown}
 use Rattle.tn_io.specs.CutterState.{line_told, whole_to_come}
 use Rattle.tn_io.specs.declared.cutter.Cut.{Cut}
 use Rattle.tn_io.proofs.KnownLemmas.{append_known-append}
@@ -38,7 +39,7 @@ use Rattle.tentris_core.specs.Runs.{Ends, IsWatched, RunsAll, RunsTaken, RunsFro
 use Rattle.line_batch.proofs.BatchLemmas.{ready_batch}
 use Rattle.tentris_core.proofs.PassLemmas.{append_none}
 use Rattle.tentris_core.proofs.TraceLemmas.{carries_more, over, commands_push, text_push, refused_push}
-use Rattle.tentris_core.proofs.TrafficLemmas.{counted_none, watched_none, watched_push, watched_on}
+use Rattle.tentris_core.proofs.TrafficLemmas.{was_shown, counted_none, watched_none, watched_push, watched_on}
 
 -- Where a run stands between two lines: what was told of the bytes taken, and the commands that were carried out. The store was `from` at
 -- first, and is `held`.
@@ -398,7 +399,7 @@ module _ (A : Around) (from held : store.State) (before now : Traffic) (s : Stat
     by (place.Inside block) e status f sh = inside_ends (one_left h.position (place.Inside block) (subst (λ z. IsAt h.position h.last held z) e h.is_at) (λ o. let f : ⊥ = cc in f)) status f sh
     by (place.Asks question) e status f sh = inside_ends (one_left h.position (place.Asks question) (subst (λ z. IsAt h.position h.last held z) e h.is_at) (λ o. let f : ⊥ = cc in f)) status f sh
 
-  pub run_been : HasBeen A.mixed held spot
+  abbrev pub run_been : HasBeen A.mixed held spot
   run_been = record { position = h.position; last = h.last; sound = h.sound; is_at = h.is_at }
 
 -- a call of the next line, by what it answered
@@ -426,9 +427,35 @@ pub around_same : {mixed : ℕ → ℕ → ℕ → ℕ → ℕ} {s t : Bool} {m 
 around_same {mixed} a b c i = around mixed (sym a i) (sym b i) (sym c i)
 
 -- what a watch is shown at last, by the store that is left
-pub shown_last : {q : Place} {before now : Option (List (List Text))} {s t : store.State} → t ≡ s → IsShownLast q before now (dump_lines (graph t)) → IsShownLast q before now (dump_lines (graph s))
-shown_last {q} {before} {now} e h = subst (λ z. IsShownLast q before now (dump_lines (graph z))) e h
+pub shown_last : (q : Place) (before now : Option (List (List Text))) (s t : store.State) → t ≡ s → IsShownLast q before now (dump_lines (graph t)) → IsShownLast q before now (dump_lines (graph s))
+shown_last q before now s t e h = subst (λ z. IsShownLast q before now (dump_lines (graph z))) e h
 
 -- the store where a command ended
-pub ended_at : {A : Around} {p : Position} {l : Line} {s held : store.State} {q : Place} {next : Position} {after : store.State} → EndsCommand A p l s next after → IsAt next after held q → held ≡ after
-ended_at {A} {p} {l} {s} {held} {q} {next} {after} e at = left_outside next after held q e.out at
+pub ended_at : {A : Around} {p : Position} {l : Line} {s : store.State} {next : Position} {after : store.State} (held : store.State) (q : Place) → EndsCommand A p l s next after → IsAt next after held q → held ≡ after
+ended_at {A} {p} {l} {s} {next} {after} held q e at = left_outside next after held q e.out at
+
+-- the store that a watch was shown, where a command ended
+pub seen_at : {A : Around} {p : Position} {l : Line} {s : store.State} {next : Position} {after : store.State} (held : store.State) (q : Place) (before now : Option (List (List Text))) → EndsCommand A p l s next after → IsAt next after held q
+    → IsShown before now (dump_lines (graph held)) → WasShown before now (dump_lines (graph after) ∷ [])
+seen_at {A} {p} {l} {s} {next} {after} held q before now e at h =
+    subst (λ z. WasShown before now (dump_lines (graph z) ∷ [])) (ended_at held q e at) (was_shown before now (dump_lines (graph held)) h)
+
+-- it was settled
+pub settled_at : {A : Around} {p : Position} {l : Line} {s : store.State} {next : Position} {after : store.State} (held : store.State) (q : Place) → EndsCommand A p l s next after → IsAt next after held q → IsSettled held
+settled_at {A} {p} {l} {s} {next} {after} held q e at = subst IsSettled (sym (ended_at held q e at)) e.carries.sound.settled
+
+-- the watch was shown the store that a script left
+pub shown_unended : (q : Place) (before now : Option (List (List Text))) (s : store.State) → (q ≡ place.Outside → ⊥) → IsShown before now (dump_lines (graph s)) → IsShownLast q before now (dump_lines (graph s))
+shown_unended place.Outside before now s other h = absurd (other refl)
+shown_unended (place.Inside block) before now s other h = was_shown before now (dump_lines (graph s)) h
+shown_unended (place.Asks question) before now s other h = was_shown before now (dump_lines (graph s)) h
+
+-- a run by how it ended, for the store that is left
+pub taken_in : {A : Around} {from t u : store.State} {a b : Traffic} → u ≡ t → RunsTaken A from t a b → RunsTaken A from u a b
+taken_in {A} {from} {t} {u} {a} {b} e = subst (λ z. RunsTaken A from z a b) (sym e)
+
+pub front_in : {A : Around} {from t u : store.State} {a b : Traffic} → u ≡ t → RunsFront A from t a b → RunsFront A from u a b
+front_in {A} {from} {t} {u} {a} {b} e = subst (λ z. RunsFront A from z a b) (sym e)
+
+pub cut_in : {A : Around} {from t u : store.State} {a b : Traffic} → u ≡ t → RunsCut A from t a b → RunsCut A from u a b
+cut_in {A} {from} {t} {u} {a} {b} e = subst (λ z. RunsCut A from z a b) (sym e)

@@ -7,6 +7,7 @@ use Rattle.rdf_model.specs.Dumps.{dump_lines}
 use Rattle.run_model.specs.Worlds.{FailedRead}
 use Rattle.run_model.specs.Steps.{or_none, failed_reads}
 use Rattle.graph_store.specs.State.{graph}
+use Rattle.graph_store.specs.Watching.{IsShown}
 use Rattle.tn_io.specs.FileFaults.{FaultCounts}
 use Rattle.line_batch.specs.Carrying.{Around}
 use Rattle.tentris_core.specs.Carrying.{StoreEvent, events_in}
@@ -25,10 +26,10 @@ counted_none a = record { none = λ e. refl; rose = λ name place. stays (a name
 
 shown_more : (a b c : Option (List (List Text))) (ds es : List (List Text)) → WasShown a b ds → WasShown b c es → WasShown a c (ds ++ es)
 shown_more a b None ds es h k = tt
-shown_more a None (Some now) ds es h k = absurd (let e = k.1.0 in let t : ⊥ = cc in t)
+shown_more a None (Some now) ds es h k = absurd (let e : None ≡ Some k.0 = k.1 in let t : ⊥ = cc in t)
 shown_more a (Some then) (Some now) ds es h k =
-    let same : then ≡ k.0 = let e : Some then ≡ Some k.0 = k.1.0 in cc in
-    (h.0, h.1.0, k.1.1 ∙ ap (λ z. z ++ es) (sym same ∙ h.1.1) ∙ append_assoc h.0 ds es)
+    let same : then ≡ k.0 = let e : Some then ≡ Some k.0 = k.1 in cc in
+    (h.0, h.1, k.2 ∙ ap (λ z. z ++ es) (sym same ∙ h.2) ∙ append_assoc h.0 ds es)
 
 rose_more : (x y a b c : ℕ) → RoseBy x a b → RoseBy y b c → RoseBy (x + y) a c
 rose_more x y a b c h k = omega (arith, h, k)
@@ -47,6 +48,11 @@ counted_more a b c xs ys h k = record {
   behind : (xs ys : List FailedRead) → xs ++ ys ≡ [] → ys ≡ []
   behind [] ys e = e
   behind (x ∷ xs) ys e = let t : ⊥ = cc in absurd t
+
+-- what a watch that is shown a store says of it
+pub was_shown : (before now : Option (List (List Text))) (lines : List Text) → IsShown before now lines → WasShown before now (lines ∷ [])
+was_shown before None lines h = tt
+was_shown before (Some now) lines h = h
 
 module _ (A : Around) where
   dumps_push : (trace : List StoreEvent) (e : StoreEvent) → dumps_of (events_in A (trace ++ e ∷ [])) ≡ dumps_of (events_in A trace) ++ dump_lines (graph e.store) ∷ []

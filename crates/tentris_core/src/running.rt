@@ -17,7 +17,6 @@ ghost use Rattle.graph_store.specs.Stands.{Stands};
 ghost use Rattle.tentris_core.specs.Traffic.{traffic};
 ghost use Rattle.tentris_core.specs.Runs.{Ends};
 ghost use Rattle.tentris_core.specs.Called.{EndsScript, EndsCall, IsByWords, WritesHelp};
-ghost use Rattle.tentris_core.specs.Puts.{PassesOn};
 ghost use Rattle.tentris_core.specs.Endings.{Finishes, EndsInBlock, IsShownLast};
 ghost use Rattle.script_read.specs.ScriptState.{at_start};
 
@@ -34,7 +33,7 @@ use script_read::{Script, ScriptFault};
 use std::alloc::Global;
 use std::marker::Brand;
 use std::sync::ledger::{Blank, Ledger};
-use tn_io::{Cut, Failed, Files, Out, Sink, Source};
+use tn_io::{Cut, Files, Out, Sink, Source, write_all};
 use trie_depth::{Memory, Mix, Steps};
 
 /// How a run ended.
@@ -193,6 +192,48 @@ fn carry_out<M: Mix, F: Files, S: Source, K: Sink, Z: Watch, W: Ledger, V: Ledge
     }
 }
 
+// Carries out the script over a store that may have as many triples as the settings say.
+fn carry_out_within<
+    M: Mix,
+    F: Files,
+    S: Source,
+    K: Sink,
+    Z: Watch,
+    W: Ledger,
+    V: Ledger,
+    U: Ledger,
+>(
+    alloc: Global,
+    settings: Settings,
+    script: &mut Script,
+    tools: &mut Tools<W, V, U>,
+    store: &mut Store<M>,
+    files: &mut F,
+    source: &mut S,
+    out: &mut Out<'_, K>,
+    watch: &mut Z,
+) -> Status
+    requires start { script.old ≡ at_start settings.max_bytes }
+    requires limits { IsWithinLimits settings }
+    requires sorted { tools.old.sorted ≡ settings.sort }
+    requires most { tools.old.reader.max ≡ settings.max_bytes }
+    requires sound { IsSound M.mixed store.old }
+    requires empty { out.old.buffer ≡ [] }
+    ensures same_sink { out.new.sink.ghost_name ≡ out.old.sink.ghost_name }
+    ensures ends { EndsScript settings result M.mixed (F.files files.old) store.old store.new
+        (traffic (S.left source.old) (K.written out.old.sink.now) (Z.shown watch.old) (F.faults files.old))
+        (traffic (S.left source.new) (K.written out.new.sink.now) (Z.shown watch.new) (F.faults files.new)) }
+    ensures sound { IsSound M.mixed store.new }
+    ensures files { F.files files.new ≡ F.files files.old }
+    ensures later_read { S.faults source.old ≤ S.faults source.new }
+    ensures later_write { K.faults out.old.sink.now ≤ K.faults out.new.sink.now }
+    ensures read_fault { result ≡ Status.ReadFault → Rose (S.faults source.old) (S.faults source.new) }
+    ensures write_fault { result ≡ Status.WriteFault → Rose (K.faults out.old.sink.now) (K.faults out.new.sink.now) }
+{
+    store.set_max(settings.max_triples);
+    carry_out(alloc, script, tools, store, files, source, out, watch)
+}
+
 // The buffers of reading, and counters that begin at 0.
 fn tools_for<W: Ledger, V: Ledger, U: Ledger>(
     alloc: Global,
@@ -280,24 +321,13 @@ fn run_script<M: Mix, F: Files, S: Source, K: Sink, Z: Watch, W: Ledger, V: Ledg
     )
 }
 
-// Puts the text of help, and passes it on whole.
-fn put_help<K: Sink>(help: &str, out: &mut Out<'_, K>) -> Result<(), Failed>
-    requires empty { out.old.buffer ≡ [] }
-    ensures same_sink { out.new.sink.ghost_name ≡ out.old.sink.ghost_name }
-    ensures text { PassesOn K.written K.faults out.old out.new result help.now }
-{
-    out.put(help.as_bytes())?;
-    out.flush()
-}
-
 // Writes the text of help.
 fn show_help<K: Sink>(help: &str, sink: &mut K) -> Status
     ensures ends { WritesHelp (K.written sink.old) (K.written sink.new) result }
     ensures later { K.faults sink.old ≤ K.faults sink.new }
     ensures fault { result ≡ Status.WriteFault → Rose (K.faults sink.old) (K.faults sink.new) }
 {
-    let mut out = Out::new(sink);
-    match put_help(help, &mut out) {
+    match write_all(sink, help.as_bytes()) {
         Ok(()) => Status::Done,
         Err(_) => Status::WriteFault,
     }

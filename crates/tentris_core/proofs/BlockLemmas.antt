@@ -1,8 +1,7 @@
 -- The commands of lines, one by one, and what is known where a script stands between two lines.
-use Rattle.std.proofs.Common.{◌≡◌, ◌∙◌, ℕ, ◌≤◌, inl, inr, Bool, true, false, cond, ◌==◌, List, [], ◌∷◌, ◌++◌, length, refl, sym, ap, subst, arith}
+use Rattle.std.proofs.Common.{◌≡◌, ◌∙◌, ℕ, ◌≤◌, Bool, true, false, cond, ◌==◌, List, [], ◌∷◌, ◌++◌, length, refl, sym, ap, subst, arith}
 use Rattle.std.specs.Prelude.{None, Some}
 use Rattle.std.specs.declared.option.Option.{Option}
-use Rattle.std.specs.FinSet as set
 use Rattle.file_model.specs.FileMap.{FileMap}
 use Rattle.text_lines.specs.Lines.{Line}
 use Rattle.script_model.specs.Commands as script
@@ -10,21 +9,15 @@ use Rattle.script_model.specs.Laws as form
 use Rattle.script_model.proofs.FormLaws.{forms_are_productions}
 use Rattle.run_model.specs.Answers as answers
 use Rattle.run_model.specs.Answers.{is_refused}
-use Rattle.run_model.specs.Sayings.{Saying, says, sayings}
+use Rattle.run_model.specs.Sayings.{says, sayings}
 use Rattle.run_model.specs.Worlds.{Config, World, FailedRead}
 use Rattle.run_model.specs.Steps as steps
 use Rattle.run_model.specs.Steps.{Step, line_refusal, LineDoes}
 use Rattle.run_model.specs.Loads.{generated_sayings}
 use Rattle.tn_io.specs.FileFaults.{FaultCounts}
-use Rattle.rdf_model.specs.Graph.{Graph, triple_cmp}
-use Rattle.graph_image.specs.ImageLaws.{graph_of-empty}
-use Rattle.graph_store.specs.State.{State, graph, IsSettled, most_triples}
-use Rattle.graph_store.specs.Staging.{nothing_staged, AreMarked}
-use Rattle.graph_store.specs.StagingLaws.{fits_nothing, before_nothing, marked_nothing}
-use Rattle.answer_text.specs.declared.Refusal.{Refusal}
+use Rattle.rdf_model.specs.Graph.{Graph}
+use Rattle.graph_store.specs.State.{State, graph}
 use Rattle.line_batch.specs.declared.answer.Answer.{Answer}
-use Rattle.line_batch.specs.declared.batch.Batch.{Batch}
-use Rattle.line_batch.specs.declared.batch.Batch.TheVariants.{Inserts, Deletes, Refused}
 use Rattle.tentris_core.specs.declared.block.Block.{Block}
 use Rattle.tentris_core.specs.declared.block.Place.{Place}
 use Rattle.tentris_core.specs.declared.block.Place.TheVariants as place
@@ -50,8 +43,6 @@ use Rattle.line_batch.specs.Loading as loads
 use Rattle.line_batch.specs.Loading.{Has}
 use Rattle.tentris_core.specs.Traffic.{times_failed, RoseBy, AreCounted, IsCounted}
 use Rattle.tentris_core.proofs.TrafficLemmas.{counted_none}
-use Rattle.line_batch.proofs.GraphLemmas.{lacked-none, had-none}
-use Rattle.line_batch.proofs.BatchLemmas.{cause_stays}
 
 -- ---- what lines do, as commands
 

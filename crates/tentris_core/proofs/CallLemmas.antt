@@ -10,8 +10,8 @@ use Rattle.graph_store.specs.State.{State}
 use Rattle.line_batch.specs.Sound.{IsSound}
 use Rattle.tentris_core.specs.Carrying.{around}
 use Rattle.tentris_core.specs.Traffic.{Traffic}
-use Rattle.tentris_core.specs.Runs.{IsUntouched, Ends}
-use Rattle.tentris_core.specs.Called.{around_by, bounded_by, WritesHelp, Helps, Lacks, EndsScript, EndsHelp, EndsCall, IsByWords}
+use Rattle.tentris_core.specs.Runs.{Ends}
+use Rattle.tentris_core.specs.Called.{around_by, bounded_by, WritesHelp, Helps, EndsScript, EndsHelp, EndsCall, IsByWords}
 use Rattle.tentris_core.specs.declared.running.Status.{Status}
 use Rattle.tentris_core.specs.declared.running.Status.TheVariants.{Done, SomeRefused, BadWords, ReadFault, WriteFault, Memory, TooLong}
 

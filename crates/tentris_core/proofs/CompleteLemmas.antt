@@ -1,16 +1,15 @@
 -- A run carries out every command that nothing refuses.
-use Rattle.std.proofs.Common.{◌≡◌, ◌≢◌, ◌∙◌, ◌⊎◌, inl, inr, ℕ, ◌+◌, ◌≤◌, Bool, true, false, ◌&&◌, ◌==◌, List, [], ◌∷◌, ◌++◌, refl, sym, ap, subst, arith}
+use Rattle.std.proofs.Common.{◌≡◌, ◌∙◌, ◌⊎◌, inl, inr, ℕ, ◌+◌, true, false, ◌==◌, List, [], ◌∷◌, ◌++◌, refl, sym, ap, subst, arith}
 use Rattle.std.specs.Prelude.{Option, Some, None, cond}
 use Rattle.std.proofs.lemmas.Bool.Decides.{nat_tests}
 use Rattle.std.proofs.lemmas.List.Sums.{sum_by-append}
-use Rattle.std.specs.Str.{bytes_eq}
 use Rattle.std.specs.Cmp.Lexicographic.{bytes_decides}
 use Rattle.rdf_model.specs.Terms.{Text}
 use Rattle.rdf_model.specs.Graph.{Graph}
-use Rattle.script_model.specs.Commands.{Change, Inserts, Deletes, Kind, Triples, Question, OneLine, Command, Block, Single, Bad, Unended, File, Generate, Dump, Stats, Shape}
-use Rattle.run_model.specs.Answers.{Refusal, Answer, Done, Dumped, Counted, Shaped, Listed, Refused, NoMemory, NoFile, is_refused}
+use Rattle.script_model.specs.Commands.{Change, Inserts, Deletes, Triples, Question, OneLine, Command, Block, Single, Bad, Unended, File, Generate, Dump, Stats, Shape}
+use Rattle.run_model.specs.Answers.{Answer, Refused, NoMemory, is_refused}
 use Rattle.text_lines.specs.Lines.{lines_of}
-use Rattle.run_model.specs.Loads.{FailsAt, generated_sayings}
+use Rattle.run_model.specs.Loads.{generated_sayings}
 use Rattle.run_model.specs.Sayings.{Saying, Changes, sayings}
 use Rattle.run_model.specs.Worlds.{Config, World, FailedRead}
 use Rattle.run_model.specs.Steps as steps
@@ -18,7 +17,7 @@ use Rattle.run_model.specs.Steps.{Step, Does, LineDoes, refusal_of, or_none, fai
 use Rattle.tn_io.specs.Causes.{Rose}
 use Rattle.tn_io.specs.FileFaults.{FaultCounts}
 use Rattle.graph_store.specs.State.{State}
-use Rattle.line_batch.specs.Carrying.{Around, config_in, world_in, Carries}
+use Rattle.line_batch.specs.Carrying.{Around, config_in, world_in}
 use Rattle.tentris_core.specs.Carrying.{StoreEvent, events_in, CarriesAll}
 use Rattle.tentris_core.specs.Traffic.{is_read, times_failed, RoseBy, AreCounted}
 use Rattle.tentris_core.specs.Complete.{IsFree, AreFree, AreUnraised, AreDone, RunsAreComplete}

@@ -22,7 +22,7 @@ use Rattle.graph_store.specs.State.{State, graph}
 use Rattle.answer_text.specs.declared.Refusal.{Refusal}
 use Rattle.answer_text.specs.declared.Refusal.TheVariants as cause
 use Rattle.answer_text.specs.Seen.{refusal_of}
-use Rattle.tentris_core.specs.declared.question.Question.TheVariants.{Text, Refused}
+use Rattle.tentris_core.specs.declared.question.Question.TheVariants.{Refused}
 use Rattle.tentris_core.specs.declared.outcome.Outcome.{Outcome}
 use Rattle.tentris_core.specs.Puts.{WritesAnswer}
 use Rattle.line_batch.specs.Sound.{IsSound}
@@ -33,7 +33,7 @@ use Rattle.query_plan.specs.Seen.{query_seen}
 use Rattle.sorted_rows.specs.Sorted.{IsUncut, GivesAllRows}
 use Rattle.sorted_rows.specs.declared.cut.Cut.{Cut}
 use Rattle.std.proofs.Common.{◌≡◌, ◌∙◌, ℕ, ◌+◌, ◌<◌, ◌≤◌, not, ◌&&◌, ◌||◌, ◌==◌, Bool, true, false, cond, List, [], ◌∷◌, ◌++◌, length, refl, sym, ap, subst, arith, append_assoc, length-append}
-use Rattle.std.specs.Prelude.{Option, Some, None, nat_le, if◌then◌else◌}
+use Rattle.std.specs.Prelude.{Option, Some, None, nat_le}
 use Rattle.std.proofs.lemmas.Bool.Decides.{nat_tests}
 use Rattle.text_lines.specs.Lines.{Line, longest}
 use Rattle.script_model.specs.Commands.{line_before, joined, if_short, question_of}

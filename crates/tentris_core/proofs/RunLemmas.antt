@@ -1,7 +1,7 @@
 -- A run, line by line.
 use Rattle.std.proofs.Common.{◌≡◌, ◌∙◌, inl, inr, ℕ, ◌+◌, ◌≤◌, Bool, true, false, cond, ◌||◌, ◌&&◌, List, [], ◌∷◌, ◌++◌, length, take, refl, sym, ap, subst, arith, append_assoc, append-nil, length-append}
-use Rattle.std.specs.Prelude.{Option, Some, None, Ok, Err, Result, map}
-use Rattle.std.specs.List.{list_any, list_all, filter}
+use Rattle.std.specs.Prelude.{Option, Some, None, Ok, Err, Result}
+use Rattle.std.specs.List.{list_all, filter}
 use Rattle.std.specs.Io.KnownBytes.{append_known, prepend_known}
 use Rattle.file_model.specs.FileMap.{FileMap}
 use Rattle.rdf_model.specs.Terms.{Text}
@@ -27,7 +27,7 @@ use Rattle.tentris_core.specs.declared.block.Place.TheVariants as place
 use Rattle.tentris_core.specs.declared.outcome.Outcome.{Outcome}
 use Rattle.tentris_core.specs.declared.outcome.Outcome.TheVariants.{GoesOn, Answered, Cut as CutOff}
 use Rattle.line_batch.specs.Sound.{IsSound}
-use Rattle.line_batch.specs.Carrying.{Around, Carries}
+use Rattle.line_batch.specs.Carrying.{Around}
 use Rattle.tentris_core.specs.Carrying.{around, StoreEvent, events_in, CarriesAll}
 use Rattle.tentris_core.specs.Places.{Position, Outside, Inside, IsAt, IsReadyAt, HasBeen, EndsCommand, Effects, effects, TakesLine, commands_from, lines_had, lines_in}
 use Rattle.tentris_core.specs.Traffic.{Traffic, WasShown, IsCounted}

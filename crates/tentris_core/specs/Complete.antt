@@ -2,7 +2,7 @@
 use Rattle.std.specs.Prelude.{◌≡◌, ◌⊎◌, ℕ, false, List, [], ◌∷◌, ⊤, None}
 use Rattle.rdf_model.specs.Terms.{Text}
 use Rattle.script_model.specs.Commands.{Change, Command, Single, File}
-use Rattle.run_model.specs.Answers.{Refusal, Answer, Refused, NoMemory, is_refused}
+use Rattle.run_model.specs.Answers.{Refusal, Refused, NoMemory, is_refused}
 use Rattle.run_model.specs.Loads.{RefusesFile}
 use Rattle.run_model.specs.Worlds.{Config, World}
 use Rattle.run_model.specs.Steps.{refusal_of, failed_reads}

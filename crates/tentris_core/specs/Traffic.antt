@@ -5,7 +5,7 @@ use Rattle.std.specs.Str.{bytes_eq}
 use Rattle.rdf_model.specs.Terms.{Text}
 use Rattle.rdf_model.specs.Dumps.{dump_lines}
 use Rattle.run_model.specs.Worlds.{FailedRead}
-use Rattle.run_model.specs.Steps.{Event, or_none, failed_reads}
+use Rattle.run_model.specs.Steps.{Event, or_none}
 use Rattle.tn_io.specs.FileFaults.{FaultCounts}
 
 -- what is left of the source, what was written to the sink, what the watch was shown, each where it is told; and how often a read of

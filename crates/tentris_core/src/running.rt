@@ -307,10 +307,10 @@ fn run_script<M: Mix, F: Files, S: Source, K: Sink, Z: Watch, W: Ledger, V: Ledg
     let Ok(mut tools) = tools_for::<W, V, U>(alloc, settings, interns, retains, reads) else {
         return Status::Memory;
     };
-    store.set_max(settings.max_triples);
     let mut out = Out::new(sink);
-    carry_out(
+    carry_out_within(
         alloc,
+        settings,
         &mut script,
         &mut tools,
         store,

@@ -18,7 +18,12 @@ fn words_and_what_they_set(rt: HostRuntime) -> Result<(), Fail> {
     let alloc = rt.alloc();
     let cases: [(&[&str], &str, Status, &str); 8] = [
         (&["--max-bytes", "5"], "STATS\nSTATS\n", Status::TooLong, ""),
-        (&["--max-bytes", "6"], "STATS\nSTATS\n", Status::TooLong, NOTHING),
+        (
+            &["--max-bytes", "6"],
+            "STATS\nSTATS\n",
+            Status::TooLong,
+            NOTHING,
+        ),
         (&["--max-bytes", "6"], "STATS\n", Status::Done, NOTHING),
         (&["--max-triples", "0"], "STATS\n", Status::BadWords, ""),
         (
@@ -110,7 +115,8 @@ fn a_large_graph(rt: HostRuntime) -> Result<(), Fail> {
     let script = "GENERATE 200000 7\n\
         QUERY\nSELECT * { ?a <urn:p:0> ?b . ?b <urn:p:1> ?c . ?c <urn:p:2> ?a }\nGO\n\
         UNLOAD f\nSTATS\n";
-    let want = "ok new 187501 now 187501\n?a\t?b\t?c\n<urn:n:1244>\t<urn:n:5382>\t<urn:n:6393>\nok rows 1\n\
+    let want =
+        "ok new 187501 now 187501\n?a\t?b\t?c\n<urn:n:1244>\t<urn:n:5382>\t<urn:n:6393>\nok rows 1\n\
         ok gone 87501 now 100000\ntriples 100000\nterms 44403\ntwo 61631\none 35827\nok stats\n";
     let Ok(name) = Text::of(alloc, "f") else {
         return Err(AllocError.into());

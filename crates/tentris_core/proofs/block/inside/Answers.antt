@@ -1,4 +1,4 @@
-use Rattle.std.proofs.Common.{◌≡◌, arith, ◌∷◌, [], ◌++◌, refl, sym, subst, length-append}
+use Rattle.std.proofs.Common.{arith, ◌∷◌, [], ◌++◌, refl, sym, subst, length-append}
 use Rattle.std.specs.Prelude.{None}
 use Rattle.run_model.specs.Sayings.{sayings}
 use Rattle.script_model.specs.Commands as script

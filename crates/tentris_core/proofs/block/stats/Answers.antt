@@ -1,9 +1,7 @@
 use Rattle.std.proofs.Common.{refl}
-use Rattle.graph_shape.specs.GraphShapes.{Figures, figures_of}
-use Rattle.graph_store.specs.State.{graph}
 use Rattle.script_model.specs.Commands as script
 use Rattle.run_model.specs.Answers.{Counted}
-use Rattle.line_batch.specs.Seen.{answer_of, figures_seen}
+use Rattle.line_batch.specs.Seen.{answer_of}
 use Rattle.line_batch.specs.declared.answer.Answer.TheVariants as answer
 use Rattle.tentris_core.proofs.BlockLemmas.{answer_step}
 use Rattle.tentris_core.proofs.block.stats.Goals as goal

@@ -1,5 +1,4 @@
-use Rattle.std.proofs.Common.{◌≡◌, ◌∙◌, subst, sym, refl, ap}
-use Rattle.std.specs.Prelude.{None}
+use Rattle.std.proofs.Common.{◌≡◌, subst, sym, ap}
 use Rattle.graph_store.specs.State.{State}
 use Rattle.line_batch.specs.Batches.{lent_line}
 use Rattle.line_batch.specs.Sound.{IsSound}

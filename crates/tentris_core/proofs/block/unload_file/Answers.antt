@@ -1,6 +1,5 @@
-use Rattle.std.proofs.Common.{◌≡◌, ap, subst, sym}
 use Rattle.script_model.specs.Commands as script
-use Rattle.tentris_core.proofs.BlockLemmas.{reads_line, sound_of, has_of}
+use Rattle.tentris_core.proofs.BlockLemmas.{reads_line, has_of}
 use Rattle.tentris_core.proofs.block.unload_file.Goals as goal
 
 pub returns-clause-line : goal.returns-clause-line

@@ -1,9 +1,8 @@
 use Rattle.std.proofs.Common.{rules, arith, ◌∙◌, refl, sym, ap, subst}
 use Rattle.std.specs.Prelude.{Ok, Err}
-use Rattle.graph_store.specs.State.{IsSettled}
 use Rattle.tentris_core.specs.Puts.{IsPassedOn}
 use Rattle.line_batch.specs.Sound.{IsSound}
-use Rattle.tentris_core.proofs.RunLemmas.{ready, run_starts, run_finishes, run_been, run_fails, run_too_long, run_line, run_answered, run_cut_off, next_at, takes_at, ends_in, taken_in, front_in, cut_in, around_same, shown_last, ended_at, seen_at, settled_at}
+use Rattle.tentris_core.proofs.RunLemmas.{ready, run_starts, run_finishes, run_been, run_fails, run_too_long, run_line, run_answered, run_cut_off, next_at, takes_at, ends_in, taken_in, front_in, cut_in, around_same, shown_last, seen_at, settled_at}
 use Rattle.tentris_core.proofs.running.carry_out.Goals as goal
 
 pub lines-init : goal.lines-init

@@ -1,4 +1,4 @@
-use Rattle.std.proofs.Common.{◌≡◌, ◌∙◌, subst, sym, refl}
+use Rattle.std.proofs.Common.{subst, sym}
 use Rattle.graph_store.specs.State.{IsSettled}
 use Rattle.tentris_core.proofs.RunLemmas.{ready}
 use Rattle.tentris_core.proofs.running.finish.Goals as goal

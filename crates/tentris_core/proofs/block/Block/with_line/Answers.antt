@@ -1,5 +1,4 @@
 use Rattle.std.proofs.Common.{arith, ◌∷◌, [], length-append, sym, subst}
-use Rattle.run_model.specs.Sayings.{says}
 use Rattle.line_batch.specs.Batches.{lent_line, IsBatch}
 use Rattle.tentris_core.proofs.BlockLemmas.{sayings_push, sayings_length}
 use Rattle.tentris_core.proofs.block.Block.with_line.Goals as goal

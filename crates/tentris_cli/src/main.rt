@@ -1,9 +1,11 @@
 //! `tentris`: reads a script from standard input and writes its answers to standard output.
 #![tactic(auto)]
 
-ghost use Rattle.std.specs.Prelude.{◌≡◌, ◌<◌, ◌⊎◌, Ok, Err, IfErr, IfOk, drop, length, map, option_map};
+ghost use Rattle.std.specs.Prelude.{◌≡◌, Ok, Err, IfErr, IfOk, drop, map, option_map};
 ghost use Rattle.std.specs.String.{string_bytes};
 ghost use Rattle.std.specs.Vec.Iter.{into_iter_items};
+ghost use Rattle.command_words.specs.Answers.{answer_to};
+ghost use Rattle.tentris_core.specs.Called.{IsByWords};
 ghost use Rattle.tentris_cli.specs.Complaints.{line_of};
 ghost use Rattle.tentris_cli.specs.Words.{status_of};
 
@@ -12,7 +14,8 @@ mod standard;
 #[cfg(test)]
 mod tests;
 
-use graph_store::Store;
+use disk::Disk;
+use graph_store::{NoWatch, Store};
 use standard::{Input, Output};
 use std::alloc::{AllocError, Global};
 use std::env::Args;
@@ -61,16 +64,24 @@ fn lent<'a>(alloc: Global, words: &'a [String]) -> Result<Vec<&'a str>, AllocErr
 
 // Carries out the script on standard input over an empty graph.
 fn carry_out(rt: &HostRuntime, words: &[String]) -> Status
-    ensures words { result ≡ Status.BadWords → 0 < length words.now }
-    ensures none { 0 < length words.now → (result ≡ Status.BadWords) ⊎ (result ≡ Status.Memory) }
+    ensures words { IsByWords (answer_to (map string_bytes words.now)) result }
 {
     let Ok(words) = lent(rt.alloc(), words) else {
         return Status::Memory;
     };
     let mut store = Store::<SplitMix>::new(rt.alloc());
+    let mut files = Disk::new(rt);
     let mut source = Input::new(rt.stdin());
     let mut sink = Output::new(rt.stdout());
-    let status = run(rt.alloc(), &words, &mut store, &mut source, &mut sink);
+    let status = run(
+        rt.alloc(),
+        &words,
+        &mut store,
+        &mut files,
+        &mut source,
+        &mut sink,
+        &mut NoWatch,
+    );
     store.close();
     status
 }
@@ -78,8 +89,7 @@ fn carry_out(rt: &HostRuntime, words: &[String]) -> Status
 // Carries out the script on standard input, where the command line could be read.
 fn start(rt: &HostRuntime, line: Result<Args, Status>) -> Status
     ensures unread { IfErr line (λ status. result ≡ status) }
-    ensures words { IfOk line (λ args. result ≡ Status.BadWords → 0 < length (drop 1 (into_iter_items args))) }
-    ensures none { IfOk line (λ args. 0 < length (drop 1 (into_iter_items args)) → (result ≡ Status.BadWords) ⊎ (result ≡ Status.Memory)) }
+    ensures words { IfOk line (λ args. IsByWords (answer_to (map string_bytes (drop 1 (into_iter_items args)))) result) }
 {
     let args = match line {
         Ok(args) => args,

@@ -26,6 +26,10 @@ fn reads_of_the_file_system(rt: HostRuntime) -> Result<(), Fail> {
         assert_eq!(rt; got.map(|count| &buf[..count]), want, "{file} at {at}");
     }
     fs::remove_file(&rt, name)?;
-    assert_eq!(rt; disk.read_at(name, 12, &mut buf), Err(Failed), "a file that vanished");
+    assert_eq!(rt;
+        disk.read_at(name, 12, &mut buf),
+        Err(Failed),
+        "a file that vanished"
+    );
     Ok(())
 }

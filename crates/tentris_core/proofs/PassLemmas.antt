@@ -1,5 +1,5 @@
 -- Answers that are put and passed on.
-use Rattle.std.proofs.Common.{◌≡◌, ◌∙◌, ℕ, ◌+◌, ◌≤◌, Bool, List, [], ◌∷◌, ◌++◌, refl, sym, ap, subst, arith, append-nil}
+use Rattle.std.proofs.Common.{◌≡◌, ◌∙◌, ℕ, List, [], refl, sym, ap, subst, arith, append-nil}
 use Rattle.std.specs.Prelude.{Option, Some, None, Ok, Err, Result, OnOk, OnErr}
 use Rattle.std.specs.Io.KnownBytes.{append_known}
 use Rattle.tn_io.specs.Causes.{HasCause}
@@ -9,7 +9,7 @@ use Rattle.tn_io.specs.declared.out.Out.{Out}
 use Rattle.tn_io.specs.declared.outside.Failed.{Failed}
 use Rattle.tn_io.proofs.KnownLemmas.{begins_trans}
 use Rattle.answer_text.specs.Puts.{Puts}
-use Rattle.tentris_core.specs.Puts.{PassesOn, IsPart}
+use Rattle.tentris_core.specs.Puts.{PassesOn}
 use Rattle.tentris_core.proofs.Parts.{part_of}
 
 pub append_none : (a : Option (List ℕ)) → append_known a [] ≡ a

@@ -11,7 +11,8 @@ use Rattle.bag_model.specs.Answers as bag
 use Rattle.bag_model.specs.Answers.{same_row, first_places}
 use Rattle.bag_model.specs.Listings.{Listing, MayGive}
 use Rattle.bag_model.specs.Solutions.{row_of}
-use Rattle.solution_model.specs.Answers.{IsAnswerTo, chosen_rows}
+use Rattle.solution_model.specs.Answers.{IsAnswerTo, chosen_rows, sorted_answer}
+use Rattle.solution_model.specs.AnswerLaws.{sorted_answers}
 use Rattle.solution_model.specs.Rows.{Row, column_labels, solutions, all_rows}
 use Rattle.script_model.specs.Commands as script
 use Rattle.run_model.specs.Answers as model
@@ -21,13 +22,18 @@ use Rattle.graph_store.specs.State.{State, graph}
 use Rattle.answer_text.specs.declared.Refusal.{Refusal}
 use Rattle.answer_text.specs.declared.Refusal.TheVariants as cause
 use Rattle.answer_text.specs.Seen.{refusal_of}
-use Rattle.tentris_core.specs.declared.question.Question.TheVariants.{Text, Refused}
+use Rattle.tentris_core.specs.declared.question.Question.TheVariants.{Refused}
 use Rattle.tentris_core.specs.declared.outcome.Outcome.{Outcome}
 use Rattle.tentris_core.specs.Puts.{WritesAnswer}
-use Rattle.tentris_core.specs.Carrying.{Around, IsSound, Carries}
+use Rattle.line_batch.specs.Sound.{IsSound}
+use Rattle.line_batch.specs.Carrying.{Around, Carries}
 use Rattle.tentris_core.specs.Questions.{IsGathered, IsFault, AnswersQuestion}
+use Rattle.query_plan.specs.declared.query.Query as plan
+use Rattle.query_plan.specs.Seen.{query_seen}
+use Rattle.sorted_rows.specs.Sorted.{IsUncut, GivesAllRows}
+use Rattle.sorted_rows.specs.declared.cut.Cut.{Cut}
 use Rattle.std.proofs.Common.{◌≡◌, ◌∙◌, ℕ, ◌+◌, ◌<◌, ◌≤◌, not, ◌&&◌, ◌||◌, ◌==◌, Bool, true, false, cond, List, [], ◌∷◌, ◌++◌, length, refl, sym, ap, subst, arith, append_assoc, length-append}
-use Rattle.std.specs.Prelude.{Option, Some, None, nat_le, if◌then◌else◌}
+use Rattle.std.specs.Prelude.{Option, Some, None, nat_le}
 use Rattle.std.proofs.lemmas.Bool.Decides.{nat_tests}
 use Rattle.text_lines.specs.Lines.{Line, longest}
 use Rattle.script_model.specs.Commands.{line_before, joined, if_short, question_of}
@@ -191,6 +197,21 @@ module _ (A : Around) (s : State) (body : List Line) (sound : IsSound A.mixed s)
     clash : false ≡ true → ⊥
     clash c = let f : ⊥ = cc in f
 
+  -- the sorted rows of a query
+  pub sorted_question : (text : List ℕ) (q : Query) (before now : Option (List ℕ)) (outcome : Outcome) → question_of body ≡ Some text → query_of text ≡ meaning.IsQuery q
+      → WritesAnswer before now outcome (model.Listed q.columns (sorted_answer q (graph s))) → AnswersQuestion A body s before now outcome
+  sorted_question text q before now outcome e reads w = record {
+    answer = model.Listed q.columns (sorted_answer q (graph s));
+    carries = record {
+      step = steps.done (script.Block script.Question body) (graph s) (model.Listed q.columns (sorted_answer q (graph s))) (ap question_refusal e ∙ ap fault_refusal reads)
+          (refl, record { text = text; short = e; q = q; reads = reads; rows = sorted_answer q (graph s); answers = sorted_answers q (graph s); in_order = λ _. refl; is = refl });
+      refused = λ c. let f : ⊥ = cc in absurd f;
+      sound = sound;
+      max = refl;
+    };
+    writes = w;
+  }
+
 -- Widths of rows
 
 abbrev has_width : ℕ → Row → Bool
@@ -252,3 +273,7 @@ wide_answers q G rows a = front (list_all p rows) (list_all p a.others) (sym (li
   moved =
       by_any p (rows ++ a.others) ∙ ap not (sym (list_any-IsPermutation (λ row. not (p row)) (chosen_rows q G) (rows ++ a.others) a.are))
       ∙ sym (by_any p (chosen_rows q G)) ∙ all_chosen q G
+
+-- a listing of the query without its cut may give all rows of the query
+pub all_rows_given : (q : Query) (G : Graph) (listing : Listing Term) {whole : plan.Query} {cut : Cut} → IsUncut q whole cut → ((rows : List Row) → MayGive listing rows → IsAnswerTo (query_seen whole) G rows) → GivesAllRows q G listing
+all_rows_given q G listing {whole} {cut} is answers = λ rows may. subst (λ z. IsAnswerTo z G rows) is.whole (answers rows may)

@@ -1,11 +1,10 @@
 -- A run over stores, one command longer.
 use Rattle.std.proofs.Common.{◌≡◌, ◌∙◌, Bool, true, false, ◌||◌, List, [], ◌∷◌, ◌++◌, refl, sym, ap, subst, append_assoc, append-nil}
-use Rattle.script_model.specs.Commands.{Command}
 use Rattle.run_model.specs.Answers.{answer_text, is_refused}
-use Rattle.run_model.specs.Steps.{Event, Run, commands_in, text_of, some_refused}
-use Rattle.run_model.specs.Worlds.{Config}
+use Rattle.run_model.specs.Steps.{Run, commands_in, text_of, some_refused}
 use Rattle.graph_store.specs.State.{State}
-use Rattle.tentris_core.specs.Carrying.{Around, StoreEvent, config_in, world_in, event_in, events_in, Carries, CarriesAll, RunsOver}
+use Rattle.line_batch.specs.Carrying.{Around, config_in, world_in, Carries}
+use Rattle.tentris_core.specs.Carrying.{StoreEvent, events_in, CarriesAll, RunsOver}
 
 module _ (A : Around) where
   -- one more command of a run

@@ -1,9 +1,11 @@
 pub mod Puts
 pub mod Seen
 pub mod Carrying
-pub mod Batches
+pub mod Traffic
 pub mod Questions
 pub mod Places
 pub mod Runs
+pub mod Called
+pub mod Complete
 pub mod Codes
 pub mod Endings

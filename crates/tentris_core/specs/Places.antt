@@ -7,17 +7,20 @@ use Rattle.run_model.specs.Answers as model
 use Rattle.run_model.specs.Sayings.{sayings}
 use Rattle.run_model.specs.Worlds.{FailedRead}
 use Rattle.graph_store.specs.State.{State}
-use Rattle.tentris_core.specs.declared.answer.Answer.{Answer}
+use Rattle.tn_io.specs.FileFaults.{FaultCounts}
+use Rattle.line_batch.specs.Batches.{IsBatch, IsReady}
+use Rattle.line_batch.specs.Seen.{answer_of}
+use Rattle.line_batch.specs.Sound.{IsSound}
+use Rattle.line_batch.specs.declared.answer.Answer.{Answer}
 use Rattle.tentris_core.specs.declared.outcome.Outcome.{Outcome}
 use Rattle.tentris_core.specs.declared.outcome.Outcome.TheVariants.{GoesOn, Answered, Cut}
 use Rattle.tentris_core.specs.declared.block.Block.{Block}
 use Rattle.tentris_core.specs.declared.block.Place.{Place}
 use Rattle.tentris_core.specs.declared.block.Place.TheVariants as place
-use Rattle.tentris_core.specs.Seen.{answer_of}
 use Rattle.tentris_core.specs.Puts.{WritesAnswer}
-use Rattle.tentris_core.specs.Batches.{IsBatch, IsReady}
 use Rattle.tentris_core.specs.Questions.{IsGathered}
-use Rattle.tentris_core.specs.Carrying.{Around, IsSound, Carries}
+use Rattle.tentris_core.specs.Traffic.{IsCounted}
+use Rattle.line_batch.specs.Carrying.{Around, Carries}
 
 -- outside a block, or in a block that has had some lines
 pub data Position : Type 0 where
@@ -62,42 +65,66 @@ IsReadyAt mixed now place.Outside = IsSound mixed now
 IsReadyAt mixed now (place.Inside block) = IsReady now block.batch
 IsReadyAt mixed now (place.Asks question) = Unit {0}
 
+-- where a script stands, and the sound store after its last command
+pub record HasBeen (mixed : ℕ → ℕ → ℕ → ℕ → ℕ) (now : State) (place : Place) : Type 0 where
+  pub position : Position
+  pub last : State
+  pub sound : IsSound mixed last
+  pub is_at : IsAt position last now place
+
+-- A line that commands something took the store from s to t, and reads of files were counted.
+pub record CarriesLine (A : Around) (s : State) (c : script.OneLine) (t : State) (a : model.Answer) (before now : FaultCounts) : Type 0 where
+  pub failed : Option FailedRead
+  pub carries : Carries A s (script.Single c) t a failed
+  pub counted : IsCounted before now failed
+
 -- A line leads on from one position to another, and ends no command.
 abbrev pub GoesTo : Position → Line → Position → Type 0
 GoesTo p l q = (rest : List Line) → commands_from p (l ∷ rest) ≡ commands_from q rest
 
--- A line leads on to another position, and ends a command, which takes the store from s to t.
+-- A line leads on out of any block, and ends a command, which takes the store from s to t.
 pub record EndsCommand (A : Around) (p : Position) (l : Line) (s : State) (q : Position) (t : State) : Type 0 where
   pub command : Command
   pub closed : is_closed command ≡ true
+  pub out : q ≡ Outside
   pub are : (rest : List Line) → commands_from p (l ∷ rest) ≡ command ∷ commands_from q rest
   pub answer : model.Answer
   pub failed : Option FailedRead
   pub carries : Carries A s command t answer failed
 
+-- what a line may do beside the store: what was written, and how often reads of files failed
+pub record Effects : Type 0 where
+  pub written : Option (List ℕ)
+  pub faults : FaultCounts
+
+abbrev pub effects : Option (List ℕ) → FaultCounts → Effects
+effects written faults = record { written = written; faults = faults }
+
 -- what a line leads to, with an answer that isn't written yet
-abbrev pub LeadsTo : Around → Position → Line → State → Position → State → Option Answer → Type 0
-LeadsTo A p l s q t None = (t ≡ s) × GoesTo p l q
-LeadsTo A p l s q t (Some a) = (e : EndsCommand A p l s q t) × (e.answer ≡ answer_of a)
+abbrev pub LeadsTo : Around → Position → Line → State → Position → State → FaultCounts → FaultCounts → Option Answer → Type 0
+LeadsTo A p l s q t before now None = (t ≡ s) × GoesTo p l q × (now ≡ before)
+LeadsTo A p l s q t before now (Some a) = (e : EndsCommand A p l s q t) × (e.answer ≡ answer_of a) × IsCounted before now e.failed
 
 -- What a line leads to, and what was written of the answer.
-abbrev pub LeadsOn : Around → Position → Line → State → Position → State → Option (List ℕ) → Option (List ℕ) → Outcome → Type 0
+abbrev pub LeadsOn : Around → Position → Line → State → Position → State → Effects → Effects → Outcome → Type 0
 LeadsOn A p l s q t before now GoesOn = (t ≡ s) × GoesTo p l q × (now ≡ before)
-LeadsOn A p l s q t before now (Answered refused) = (e : EndsCommand A p l s q t) × WritesAnswer before now (Answered refused) e.answer
-LeadsOn A p l s q t before now Cut = (e : EndsCommand A p l s q t) × WritesAnswer before now Cut e.answer
+LeadsOn A p l s q t before now (Answered refused) =
+    (e : EndsCommand A p l s q t) × WritesAnswer before.written now.written (Answered refused) e.answer × IsCounted before.faults now.faults e.failed
+LeadsOn A p l s q t before now Cut =
+    (e : EndsCommand A p l s q t) × WritesAnswer before.written now.written Cut e.answer × IsCounted before.faults now.faults e.failed
 
 -- a line was taken; the store was s after the last command before it, and is `now`
-pub record MeetsLine (A : Around) (p : Position) (l : Line) (s now : State) (place : Place) (answer : Option Answer) : Type 0 where
+pub record MeetsLine (A : Around) (p : Position) (l : Line) (s now : State) (place : Place) (before then : FaultCounts) (answer : Option Answer) : Type 0 where
   pub next : Position
   pub after : State
   pub is_at : IsAt next after now place
-  pub leads : LeadsTo A p l s next after answer
+  pub leads : LeadsTo A p l s next after before then answer
   pub had : lines_had next ≤ lines_had p + 1
 
 -- a line was taken, and what it leads to was written
-pub record TakesLine (A : Around) (p : Position) (l : Line) (s now : State) (place : Place) (before after_it : Option (List ℕ)) (outcome : Outcome) : Type 0 where
+pub record TakesLine (A : Around) (p : Position) (l : Line) (s now : State) (place : Place) (before then : Effects) (outcome : Outcome) : Type 0 where
   pub next : Position
   pub after : State
   pub is_at : IsAt next after now place
-  pub leads : LeadsOn A p l s next after before after_it outcome
+  pub leads : LeadsOn A p l s next after before then outcome
   pub had : lines_had next ≤ lines_had p + 1

@@ -1,5 +1,5 @@
 -- What is known of the lines of a query's block, and what its answer writes.
-use Rattle.std.specs.Prelude.{◌≡◌, ℕ, List, [], Option, Some, None, Result, OnOk, OnErr}
+use Rattle.std.specs.Prelude.{◌≡◌, ℕ, List, Option, Some, None, Result}
 use Rattle.rdf_model.specs.Terms.{Term}
 use Rattle.text_lines.specs.Lines.{Line}
 use Rattle.script_model.specs.Commands as script
@@ -21,7 +21,7 @@ use Rattle.tentris_core.specs.declared.question.Question.{Question}
 use Rattle.tentris_core.specs.declared.question.Question.TheVariants.{Text, Refused}
 use Rattle.tentris_core.specs.declared.outcome.Outcome.{Outcome}
 use Rattle.tentris_core.specs.Puts.{PassesOn, WritesAnswer}
-use Rattle.tentris_core.specs.Carrying.{Around, Carries}
+use Rattle.line_batch.specs.Carrying.{Around, Carries}
 
 -- what the lines of the block say so far: their text, or that it is too long
 abbrev pub IsGathered : List Line → Question → Type 0

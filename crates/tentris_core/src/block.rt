@@ -1,31 +1,32 @@
 //! The lines of blocks, and the commands that lines outside blocks give.
 //!
 //! A block's lines are judged as they come; the graph is changed once, where the block ends.
-ghost use Rattle.std.specs.Prelude.{◌≡◌, ◌≤◌, ◌+◌, ◌<◌, ◌-◌, ◌^◌, ◌++◌, ◌∷◌, [], List, length, IfSome, None, false};
+ghost use Rattle.std.specs.Prelude.{◌≡◌, ◌≤◌, ◌+◌, ◌<◌, ◌-◌, ◌^◌, ◌++◌, ◌∷◌, [], List, length, IfSome, None};
 ghost use Rattle.text_lines.specs.Lines.{Line};
 ghost use Rattle.script_model.specs.Commands as script;
 ghost use Rattle.graph_store.specs.State.{State, IsSettled};
-ghost use Rattle.tentris_core.specs.Seen.{answer_of};
-ghost use Rattle.tentris_core.specs.Batches.{lent_line, IsReady};
-ghost use Rattle.tentris_core.specs.Carrying.{Around, around, IsSound, Carries};
-ghost use Rattle.tentris_core.specs.Places.{IsBlock, IsAt, IsReadyAt, MeetsLine, TakesLine, Position, Outside, Inside, lines_in};
+ghost use Rattle.tn_io.specs.FileFaults.{FaultCounts};
+ghost use Rattle.line_batch.specs.Seen.{answer_of};
+ghost use Rattle.line_batch.specs.Sound.{IsSound};
+ghost use Rattle.line_batch.specs.Batches.{lent_line, IsReady, MayBeScope};
+ghost use Rattle.line_batch.specs.Carrying.{Around, Carries};
+ghost use Rattle.tentris_core.specs.Carrying.{around};
+ghost use Rattle.tentris_core.specs.Places.{IsBlock, IsAt, IsReadyAt, CarriesLine, MeetsLine, TakesLine, Position, Outside, Inside, lines_in, effects};
 ghost use Rattle.tentris_core.specs.Puts.{IsPassedOn, HasOutcome};
 ghost use Rattle.tentris_core.specs.Seen.{Tells};
 ghost use Rattle.tentris_core.specs.Questions.{IsGathered};
 
-use crate::answer::Answer;
-use crate::batch::Batch;
-use crate::counts::Counts;
 use crate::outcome::{Outcome, pass_on};
 use crate::question::Question;
-use crate::settings::Settings;
+use crate::tools::Tools;
 use answer_text::Refusal;
-use graph_store::{Staged, Store, Taken};
+use graph_store::Store;
+use line_batch::{Answer, Batch, Counts, generate, load};
 use rdf_term::Scratch;
 use script_read::{Command, command, skipped};
 use std::alloc::Global;
 use std::sync::ledger::Ledger;
-use tn_io::{Out, Sink};
+use tn_io::{Files, Out, Sink};
 use trie_depth::Mix;
 
 // The line that ends a block.
@@ -62,7 +63,7 @@ impl Block {
         let number = lines + 1;
         Block {
             lines: number,
-            batch: batch.with_line(store, line, number, scratch),
+            batch: batch.with_line(store, line, "", number, scratch),
         }
     }
 }
@@ -112,10 +113,85 @@ fn stats<M: Mix>(store: &Store<M>) -> Answer
     Answer::Counted(store.stats())
 }
 
+// Adds the triples of a file, or takes them away.
+fn load_file<M: Mix, F: Files, W: Ledger, V: Ledger, U: Ledger>(
+    alloc: Global,
+    store: &mut Store<M>,
+    files: &mut F,
+    tools: &mut Tools<W, V, U>,
+    scope: &str,
+    name: &str,
+) -> Answer
+    requires sound { IsSound M.mixed store.old }
+    requires few { tools.old.reader.max ≤ 1099511627776 }
+    requires scope { MayBeScope scope.now }
+    ensures line { (A : Around) → A ≡ around M.mixed tools.old.sorted tools.old.reader.max (F.files files.old)
+        → CarriesLine A store.old (script.File script.Inserts scope.now name.now) store.new (answer_of result) (F.faults files.old) (F.faults files.new) }
+    ensures sorted { tools.new.sorted ≡ tools.old.sorted }
+    ensures most { tools.new.reader.max ≡ tools.old.reader.max }
+    ensures files { F.files files.new ≡ F.files files.old }
+{
+    let batch = Batch::inserts(alloc, store);
+    load(
+        alloc,
+        batch,
+        store,
+        files,
+        &mut tools.reader,
+        scope,
+        name,
+        &mut tools.scratch,
+        &mut tools.counts,
+    )
+}
+
+// Takes the triples of a file away.
+fn unload_file<M: Mix, F: Files, W: Ledger, V: Ledger, U: Ledger>(
+    alloc: Global,
+    store: &mut Store<M>,
+    files: &mut F,
+    tools: &mut Tools<W, V, U>,
+    scope: &str,
+    name: &str,
+) -> Answer
+    requires sound { IsSound M.mixed store.old }
+    requires few { tools.old.reader.max ≤ 1099511627776 }
+    requires scope { MayBeScope scope.now }
+    ensures line { (A : Around) → A ≡ around M.mixed tools.old.sorted tools.old.reader.max (F.files files.old)
+        → CarriesLine A store.old (script.File script.Deletes scope.now name.now) store.new (answer_of result) (F.faults files.old) (F.faults files.new) }
+    ensures sorted { tools.new.sorted ≡ tools.old.sorted }
+    ensures most { tools.new.reader.max ≡ tools.old.reader.max }
+    ensures files { F.files files.new ≡ F.files files.old }
+{
+    let batch = Batch::deletes(alloc, store);
+    load(
+        alloc,
+        batch,
+        store,
+        files,
+        &mut tools.reader,
+        scope,
+        name,
+        &mut tools.scratch,
+        &mut tools.counts,
+    )
+}
+
 // Takes a line outside a block.
-fn outside<M: Mix>(alloc: Global, store: &Store<M>, line: Option<&[u8]>) -> (Place, Option<Answer>)
-    requires { IsSettled store.now }
-    ensures { (A : Around) → IsSound A.mixed store.now → MeetsLine A Outside (lent_line line.entry) store.now store.now result.0 result.1 }
+fn outside<M: Mix, F: Files, W: Ledger, V: Ledger, U: Ledger>(
+    alloc: Global,
+    store: &mut Store<M>,
+    files: &mut F,
+    tools: &mut Tools<W, V, U>,
+    line: Option<&[u8]>,
+) -> (Place, Option<Answer>)
+    requires sound { IsSound M.mixed store.old }
+    requires few { tools.old.reader.max ≤ 1099511627776 }
+    ensures meets { (A : Around) → A ≡ around M.mixed tools.old.sorted tools.old.reader.max (F.files files.old)
+        → MeetsLine A Outside (lent_line line.entry) store.old store.new result.0 (F.faults files.old) (F.faults files.new) result.1 }
+    ensures sorted { tools.new.sorted ≡ tools.old.sorted }
+    ensures most { tools.new.reader.max ≡ tools.old.reader.max }
+    ensures files { F.files files.new ≡ F.files files.old }
 {
     let Some(bytes) = line else {
         return (Place::Outside, Some(Answer::Refused(Refusal::Command)));
@@ -125,8 +201,27 @@ fn outside<M: Mix>(alloc: Global, store: &Store<M>, line: Option<&[u8]>) -> (Pla
     }
     match command(bytes) {
         Some(Command::Insert) => (begin_insert(alloc, store), None),
-        Some(Command::Delete) => (begin_delete(alloc), None),
+        Some(Command::Delete) => (begin_delete(alloc, store), None),
         Some(Command::Query) => (Place::Asks(Question::new(alloc)), None),
+        Some(Command::Load(scope, name)) => {
+            let answer = load_file(alloc, store, files, tools, scope, name);
+            (Place::Outside, Some(answer))
+        }
+        Some(Command::Unload(scope, name)) => {
+            let answer = unload_file(alloc, store, files, tools, scope, name);
+            (Place::Outside, Some(answer))
+        }
+        Some(Command::Generate(count, salt)) => {
+            let answer = generate(
+                alloc,
+                store,
+                count,
+                salt,
+                &mut tools.scratch,
+                &mut tools.counts,
+            );
+            (Place::Outside, Some(answer))
+        }
         Some(Command::Dump) => (Place::Outside, Some(dump(alloc, store))),
         Some(Command::Stats) => (Place::Outside, Some(stats(store))),
         Some(Command::Shape) => (Place::Outside, Some(shape(alloc, store))),
@@ -139,21 +234,20 @@ fn begin_insert<M: Mix>(alloc: Global, store: &Store<M>) -> Place
     requires { IsSettled store.now }
     ensures { IsAt (Inside (script.Triples script.Inserts) []) store.now store.now result }
 {
-    // This call tells the proof how many triples there are at most.
-    store.triples();
     Place::Inside(Block {
         lines: 0,
-        batch: Batch::Inserts(Staged::new(alloc)),
+        batch: Batch::inserts(alloc, store),
     })
 }
 
 // A block of triples that are taken out, without a line yet.
-fn begin_delete(alloc: Global) -> Place
-    ensures { (s : State) → IsAt (Inside (script.Triples script.Deletes) []) s s result }
+fn begin_delete<M: Mix>(alloc: Global, store: &Store<M>) -> Place
+    requires { IsSettled store.now }
+    ensures { IsAt (Inside (script.Triples script.Deletes) []) store.now store.now result }
 {
     Place::Inside(Block {
         lines: 0,
-        batch: Batch::Deletes(Taken::new(alloc)),
+        batch: Batch::deletes(alloc, store),
     })
 }
 
@@ -170,7 +264,6 @@ fn ends(line: Option<&[u8]>) -> bool
 // Takes a line of a block.
 fn inside<M: Mix, W: Ledger, V: Ledger, U: Ledger>(
     alloc: Global,
-    settings: Settings,
     store: &mut Store<M>,
     block: Block,
     line: Option<&[u8]>,
@@ -180,8 +273,9 @@ fn inside<M: Mix, W: Ledger, V: Ledger, U: Ledger>(
     requires short { IfSome line (λ l. length l.now ≤ 1048576) }
     requires room { block.lines < 2 ^ 64 - 1 }
     requires ready { IsReady store.old block.batch }
-    ensures { (s : State) (change : script.Change) (body : List Line) → IsSound M.mixed s → IsBlock s change body store.old block
-        → MeetsLine (around M.mixed settings None) (Inside (script.Triples change) body) (lent_line line.entry) s store.new result.0 result.1 }
+    ensures { (A : Around) (s : State) (change : script.Change) (body : List Line) (faults : FaultCounts) → A.mixed ≡ M.mixed → IsSound A.mixed s
+        → IsBlock s change body store.old block
+        → MeetsLine A (Inside (script.Triples change) body) (lent_line line.entry) s store.new result.0 faults faults result.1 }
 {
     if ends(line) {
         let Block { lines: _, batch } = block;
@@ -197,19 +291,21 @@ fn asks<M: Mix, K: Sink, W: Ledger, V: Ledger, U: Ledger>(
     store: &Store<M>,
     question: Question,
     line: Option<&[u8]>,
+    sorted: bool,
     counts: &mut Counts<W, V, U>,
     out: &mut Out<'_, K>,
 ) -> (Place, Outcome)
     requires short { IfSome line (λ l. length l.now ≤ 1048576) }
     requires empty { out.old.buffer ≡ [] }
     ensures same_sink { out.new.sink.ghost_name ≡ out.old.sink.ghost_name }
-    ensures takes { (A : Around) (body : List Line) → A.sorted ≡ false → IsSound A.mixed store.now → IsGathered body question
-        → TakesLine A (Inside script.Question body) (lent_line line.entry) store.now store.now result.0 (K.written out.old.sink.now) (K.written out.new.sink.now) result.1 }
+    ensures takes { (A : Around) (body : List Line) (faults : FaultCounts) → A.sorted ≡ sorted → IsSound A.mixed store.now → IsGathered body question
+        → TakesLine A (Inside script.Question body) (lent_line line.entry) store.now store.now result.0
+        (effects (K.written out.old.sink.now) faults) (effects (K.written out.new.sink.now) faults) result.1 }
     ensures empty { IsPassedOn result.1 out.new }
     ensures cause { HasOutcome (K.faults out.old.sink.now) (K.faults out.new.sink.now) result.1 }
 {
     if ends(line) {
-        let outcome = question.answer(alloc, store, &mut counts.reads, out);
+        let outcome = question.answer(alloc, store, sorted, &mut counts.reads, out);
         return (Place::Outside, outcome);
     }
     (Place::Asks(question.with_line(line)), Outcome::GoesOn)
@@ -230,34 +326,49 @@ fn tell<K: Sink>(out: &mut Out<'_, K>, answer: Option<Answer>) -> Outcome
 }
 
 /// Takes a line, and passes on the answer of the command that it ends.
-pub fn take_line<M: Mix, K: Sink, W: Ledger, V: Ledger, U: Ledger>(
+pub fn take_line<M: Mix, F: Files, K: Sink, W: Ledger, V: Ledger, U: Ledger>(
     alloc: Global,
-    settings: Settings,
     store: &mut Store<M>,
+    files: &mut F,
+    tools: &mut Tools<W, V, U>,
     place: Place,
     line: Option<&[u8]>,
-    scratch: &mut Scratch,
-    counts: &mut Counts<W, V, U>,
     out: &mut Out<'_, K>,
 ) -> (Place, Outcome)
     requires short { IfSome line (λ l. length l.now ≤ 1048576) }
     requires room { lines_in place < 2 ^ 64 - 1 }
     requires ready { IsReadyAt M.mixed store.old place }
+    requires few { tools.old.reader.max ≤ 1099511627776 }
     requires empty { out.old.buffer ≡ [] }
     ensures same_sink { out.new.sink.ghost_name ≡ out.old.sink.ghost_name }
-    ensures takes { (p : Position) (s : State) → IsSound M.mixed s → IsAt p s store.old place
-        → TakesLine (around M.mixed settings None) p (lent_line line.entry) s store.new result.0 (K.written out.old.sink.now) (K.written out.new.sink.now) result.1 }
+    ensures takes { (A : Around) (p : Position) (s : State) → A ≡ around M.mixed tools.old.sorted tools.old.reader.max (F.files files.old)
+        → IsSound A.mixed s → IsAt p s store.old place
+        → TakesLine A p (lent_line line.entry) s store.new result.0
+        (effects (K.written out.old.sink.now) (F.faults files.old)) (effects (K.written out.new.sink.now) (F.faults files.new)) result.1 }
+    ensures sorted { tools.new.sorted ≡ tools.old.sorted }
+    ensures most { tools.new.reader.max ≡ tools.old.reader.max }
+    ensures files { F.files files.new ≡ F.files files.old }
     ensures empty { IsPassedOn result.1 out.new }
     ensures cause { HasOutcome (K.faults out.old.sink.now) (K.faults out.new.sink.now) result.1 }
 {
     match place {
         Place::Outside => {
-            let (next, answer) = outside(alloc, store, line);
+            let (next, answer) = outside(alloc, store, files, tools, line);
             (next, tell(out, answer))
         }
-        Place::Asks(question) => asks(alloc, store, question, line, counts, out),
+        Place::Asks(question) => {
+            let sorted = tools.sorted;
+            asks(alloc, store, question, line, sorted, &mut tools.counts, out)
+        }
         Place::Inside(block) => {
-            let (next, answer) = inside(alloc, settings, store, block, line, scratch, counts);
+            let (next, answer) = inside(
+                alloc,
+                store,
+                block,
+                line,
+                &mut tools.scratch,
+                &mut tools.counts,
+            );
             (next, tell(out, answer))
         }
     }

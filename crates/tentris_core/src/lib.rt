@@ -1,14 +1,12 @@
 //! Carries out a script over a graph, from the bytes that come in to the bytes that go out.
 #![tactic(auto)]
 
-mod answer;
-mod batch;
 mod block;
-mod counts;
+mod laws;
 mod outcome;
 mod question;
 mod running;
-mod settings;
+mod tools;
 
-pub use answer::Answer;
-pub use running::{MAX_BYTES, Status, run};
+pub use laws::law_of_complete_runs;
+pub use running::{Status, run};

@@ -1,10 +1,10 @@
 //! What a line of a script leads to, once its answer was written.
 ghost use Rattle.std.specs.Prelude.{◌≡◌, []};
 ghost use Rattle.run_model.specs.Answers.{answer_text, is_refused};
-ghost use Rattle.tentris_core.specs.Seen.{answer_of};
+ghost use Rattle.line_batch.specs.Seen.{answer_of};
 ghost use Rattle.tentris_core.specs.Puts.{PassesOn, WritesAnswer, IsPassedOn, HasOutcome};
 
-use crate::answer::Answer;
+use line_batch::Answer;
 use tn_io::{Failed, Out, Sink};
 
 /// What a line leads to.

@@ -8,21 +8,27 @@ ghost use Rattle.query_plan.specs.Labels.{IsLabelled};
 ghost use Rattle.query_plan.specs.Seen.{query_seen};
 ghost use Rattle.query_read.specs.Reads.{Reads};
 ghost use Rattle.listing_text.specs.Rows.{HasWidth};
-ghost use Rattle.tentris_core.specs.Batches.{lent_line};
-ghost use Rattle.tentris_core.specs.Carrying.{Around, IsSound};
-ghost use Rattle.tentris_core.specs.Puts.{IsPassedOn, HasOutcome};
+ghost use Rattle.sorted_rows.specs.Sorted.{IsUncut, all_texts};
+ghost use Rattle.solution_model.specs.Answers.{sorted_answer};
+ghost use Rattle.run_model.specs.Answers.{answer_text, Listed};
+ghost use Rattle.rdf_model.specs.Graph.{Graph};
+ghost use Rattle.line_batch.specs.Batches.{lent_line};
+ghost use Rattle.line_batch.specs.Sound.{IsSound};
+ghost use Rattle.line_batch.specs.Carrying.{Around};
+ghost use Rattle.tentris_core.specs.Puts.{PassesOn, IsPassedOn, HasOutcome};
 ghost use Rattle.tentris_core.specs.Questions.{IsGathered, IsFault, AnswersQuestion, PassesAnswer};
 
-use crate::answer::Answer;
 use crate::outcome::{Outcome, pass_on};
 use answer_text::Refusal;
 use graph_store::{Listing, Store};
+use line_batch::Answer;
 use listing_text::put_listing;
 use query_plan::Query;
 use query_read::{ReadFault, read};
+use sorted_rows::{Cut, put_sorted, sorted_texts, uncut};
 use std::alloc::Global;
 use std::sync::ledger::Ledger;
-use tn_io::{Failed, Out, Sink};
+use tn_io::{Failed, Out, Sink, Text};
 use trie_depth::{Memory, Mix, Steps};
 
 // The greatest number of bytes of a query's text.
@@ -70,19 +76,20 @@ impl Question {
         self,
         alloc: Global,
         store: &Store<M>,
+        sorted: bool,
         reads: &mut Steps<U>,
         out: &mut Out<'_, K>,
     ) -> Outcome
         requires empty { out.old.buffer ≡ [] }
         ensures same_sink { out.new.sink.ghost_name ≡ out.old.sink.ghost_name }
-        ensures answers { (A : Around) (body : List Line) → A.sorted ≡ false → IsSound A.mixed store.now → IsGathered body self
+        ensures answers { (A : Around) (body : List Line) → A.sorted ≡ sorted → IsSound A.mixed store.now → IsGathered body self
             → AnswersQuestion A body store.now (K.written out.old.sink.now) (K.written out.new.sink.now) result }
         ensures empty { IsPassedOn result out.new }
         ensures cause { HasOutcome (K.faults out.old.sink.now) (K.faults out.new.sink.now) result }
     {
         match self {
             Question::Refused(cause) => pass_on(out, &Answer::Refused(cause)),
-            Question::Text(text) => ask(alloc, store, &text, reads, out),
+            Question::Text(text) => ask(alloc, store, &text, sorted, reads, out),
         }
     }
 }
@@ -92,18 +99,25 @@ fn ask<M: Mix, K: Sink, U: Ledger>(
     alloc: Global,
     store: &Store<M>,
     text: &[u8],
+    sorted: bool,
     reads: &mut Steps<U>,
     out: &mut Out<'_, K>,
 ) -> Outcome
     requires empty { out.old.buffer ≡ [] }
     ensures same_sink { out.new.sink.ghost_name ≡ out.old.sink.ghost_name }
-    ensures answers { (A : Around) (body : List Line) → A.sorted ≡ false → IsSound A.mixed store.now → question_of body ≡ Some text.now
+    ensures answers { (A : Around) (body : List Line) → A.sorted ≡ sorted → IsSound A.mixed store.now → question_of body ≡ Some text.now
         → AnswersQuestion A body store.now (K.written out.old.sink.now) (K.written out.new.sink.now) result }
     ensures empty { IsPassedOn result out.new }
     ensures cause { HasOutcome (K.faults out.old.sink.now) (K.faults out.new.sink.now) result }
 {
     match read(alloc, text) {
-        Ok(query) => list(alloc, store, &query, reads, out),
+        Ok(query) => {
+            if sorted {
+                sort(alloc, store, query, reads, out)
+            } else {
+                list(alloc, store, &query, reads, out)
+            }
+        }
         Err(fault) => pass_on(out, &Answer::Refused(cause_of(fault))),
     }
 }
@@ -159,6 +173,51 @@ fn list<M: Mix, K: Sink, U: Ledger>(
         Ok(listing) => match put_whole(query, listing, reads, out) {
             Ok(()) => Outcome::Answered(false),
             Err(_) => Outcome::Cut,
+        },
+        Err(_) => pass_on(out, &Answer::Refused(Refusal::Memory)),
+    }
+}
+
+// Puts the sorted rows of a query's answer, and passes it on whole.
+fn put_sorted_whole<K: Sink>(
+    query: &Query,
+    cut: Cut,
+    texts: &[Text],
+    out: &mut Out<'_, K>,
+) -> Result<(), Failed>
+    requires empty { out.old.buffer ≡ [] }
+    ensures same_sink { out.new.sink.ghost_name ≡ out.old.sink.ghost_name }
+    ensures text { (q : meaning.Query) (G : Graph) → IsUncut q query.now cut → texts.now ≡ all_texts q G
+        → PassesOn K.written K.faults out.old out.new result (answer_text (Listed q.columns (sorted_answer q G))) }
+{
+    put_sorted(query, cut, texts, out)?;
+    out.flush()
+}
+
+// Answers a query that was read, its rows sorted.
+fn sort<M: Mix, K: Sink, U: Ledger>(
+    alloc: Global,
+    store: &Store<M>,
+    query: Query,
+    reads: &mut Steps<U>,
+    out: &mut Out<'_, K>,
+) -> Outcome
+    requires labelled { IsLabelled query }
+    requires empty { out.old.buffer ≡ [] }
+    ensures same_sink { out.new.sink.ghost_name ≡ out.old.sink.ghost_name }
+    ensures answers { (A : Around) (body : List Line) (text : List ℕ) → IsSound A.mixed store.now → question_of body ≡ Some text → query_of text ≡ IsQuery (query_seen query)
+        → AnswersQuestion A body store.now (K.written out.old.sink.now) (K.written out.new.sink.now) result }
+    ensures empty { IsPassedOn result out.new }
+    ensures cause { HasOutcome (K.faults out.old.sink.now) (K.faults out.new.sink.now) result }
+{
+    let (query, cut) = uncut(query);
+    match store.listing(alloc, &query) {
+        Ok(listing) => match sorted_texts(alloc, listing, query.columns.len(), reads) {
+            Ok(texts) => match put_sorted_whole(&query, cut, &texts, out) {
+                Ok(()) => Outcome::Answered(false),
+                Err(_) => Outcome::Cut,
+            },
+            Err(_) => pass_on(out, &Answer::Refused(Refusal::Memory)),
         },
         Err(_) => pass_on(out, &Answer::Refused(Refusal::Memory)),
     }

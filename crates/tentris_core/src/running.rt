@@ -2,35 +2,39 @@
 //!
 //! The script is read line by line; each command is carried out whole, or refused, and its answer passed on whole
 //! before the next line is read.
-ghost use Rattle.std.specs.Prelude.{◌≡◌, ◌≤◌, ◌<◌, [], length, IfSome, ◌↔◌, ◌≢◌, None};
+ghost use Rattle.std.specs.Prelude.{◌≡◌, ◌≤◌, ◌<◌, [], length, IfOk, IfSome, ◌≢◌, map};
 ghost use Rattle.tn_io.specs.Causes.{Rose};
 ghost use Rattle.tn_io.specs.CutterState.{line_told};
-ghost use Rattle.tentris_core.specs.Batches.{lent_line};
-ghost use Rattle.tentris_core.specs.Places.{Position, IsAt, IsReadyAt};
-ghost use Rattle.tentris_core.specs.Carrying.{IsSound, around};
-ghost use Rattle.graph_store.specs.State.{State, IsSettled};
+ghost use Rattle.tn_io.specs.FileFaults.{FaultCounts};
+ghost use Rattle.rdf_model.specs.Dumps.{dump_lines};
+ghost use Rattle.line_batch.specs.Batches.{lent_line};
+ghost use Rattle.line_batch.specs.Sound.{IsSound};
+ghost use Rattle.command_words.specs.Answers.{answer_to, IsWithinLimits};
+ghost use Rattle.tentris_core.specs.Places.{IsAt, IsReadyAt, HasBeen};
+ghost use Rattle.tentris_core.specs.Carrying.{around};
+ghost use Rattle.graph_store.specs.State.{State, IsSettled, graph};
 ghost use Rattle.graph_store.specs.Stands.{Stands};
+ghost use Rattle.tentris_core.specs.Traffic.{traffic};
 ghost use Rattle.tentris_core.specs.Runs.{Ends};
-ghost use Rattle.tentris_core.specs.Endings.{Finishes, EndsInBlock};
+ghost use Rattle.tentris_core.specs.Called.{EndsScript, EndsCall, IsByWords, WritesHelp};
+ghost use Rattle.tentris_core.specs.Endings.{Finishes, EndsInBlock, IsShownLast};
 ghost use Rattle.script_read.specs.ScriptState.{at_start};
 
-use crate::answer::Answer;
-use crate::block::{Block, Place, take_line};
-use crate::counts::Counts;
+use crate::block::{Place, take_line};
 use crate::outcome::{Outcome, pass_on};
-use crate::settings::Settings;
+use crate::tools::Tools;
 use answer_text::Refusal;
-use graph_store::Store;
+use command_words::{Refused, Settings, read_words};
+use file_read::FileReader;
+use graph_store::{Store, Watch};
+use line_batch::{Answer, Counts};
 use rdf_term::Scratch;
 use script_read::{Script, ScriptFault};
 use std::alloc::Global;
 use std::marker::Brand;
 use std::sync::ledger::{Blank, Ledger};
-use tn_io::{Cut, Out, Sink, Source};
-use trie_depth::{Mix, Steps};
-
-/// The greatest number of bytes of a script.
-pub const MAX_BYTES: u64 = 1_099_511_627_776;
+use tn_io::{Cut, Files, Out, Sink, Source, write_all};
+use trie_depth::{Memory, Mix, Steps};
 
 /// How a run ended.
 #[derive(Clone, Copy, Debug, PartialEq, Eq)]
@@ -96,60 +100,60 @@ fn refuse_unended<K: Sink>(out: &mut Out<'_, K>) -> Status
     }
 }
 
-// The script has ended: a block without its end is refused.
-fn finish<M: Mix, K: Sink>(
+// The script has ended: a block without its end is refused, and shown as a command.
+fn finish<M: Mix, K: Sink, Z: Watch>(
     place: Place,
     refused: bool,
     store: &mut Store<M>,
     out: &mut Out<'_, K>,
+    watch: &mut Z,
 ) -> Status
-    requires ready { IsReadyAt M.mixed store.old place }
+    requires been { HasBeen M.mixed store.old place }
     requires empty { out.old.buffer ≡ [] }
     ensures same_sink { out.new.sink.ghost_name ≡ out.old.sink.ghost_name }
-    ensures store { (p : Position) (s : State) → IsAt p s store.old place → store.new ≡ s }
-    ensures ends { Finishes K.written place refused out.old out.new result }
+    ensures store { (h : HasBeen M.mixed store.old place) → store.new ≡ h.last }
+    ensures ends { Finishes place refused (K.written out.old.sink.now) (K.written out.new.sink.now) result }
+    ensures shown { IsShownLast place (Z.shown watch.old) (Z.shown watch.new) (dump_lines (graph store.new)) }
     ensures later { K.faults out.old.sink.now ≤ K.faults out.new.sink.now }
     ensures fault { result ≡ Status.WriteFault → Rose (K.faults out.old.sink.now) (K.faults out.new.sink.now) }
 {
-    match place {
-        Place::Outside => {
-            if refused {
-                Status::SomeRefused
-            } else {
-                Status::Done
-            }
-        }
-        Place::Inside(block) => {
-            let Block { lines: _, batch } = block;
-            batch.abandon(store);
-            refuse_unended(out)
-        }
-        Place::Asks(question) => {
-            drop(question);
-            refuse_unended(out)
-        }
+    let ended = matches!(&place, Place::Outside);
+    place.abandon(store);
+    if ended {
+        return if refused {
+            Status::SomeRefused
+        } else {
+            Status::Done
+        };
     }
+    let status = refuse_unended(out);
+    watch.seen(store);
+    status
 }
 
 // Carries out the script, from its first line on.
-fn carry_out<M: Mix, S: Source, K: Sink, W: Ledger, V: Ledger, U: Ledger>(
+fn carry_out<M: Mix, F: Files, S: Source, K: Sink, Z: Watch, W: Ledger, V: Ledger, U: Ledger>(
     alloc: Global,
-    settings: Settings,
     script: &mut Script,
-    scratch: &mut Scratch,
+    tools: &mut Tools<W, V, U>,
     store: &mut Store<M>,
+    files: &mut F,
     source: &mut S,
     out: &mut Out<'_, K>,
-    counts: &mut Counts<W, V, U>,
+    watch: &mut Z,
 ) -> Status
-    requires start { script.old ≡ at_start settings.most_bytes }
-    requires few { settings.most_bytes ≤ 1099511627776 }
+    requires start { script.old ≡ at_start tools.old.reader.max }
+    requires few { tools.old.reader.max ≤ 1099511627776 }
     requires sound { IsSound M.mixed store.old }
     requires empty { out.old.buffer ≡ [] }
     ensures same_sink { out.new.sink.ghost_name ≡ out.old.sink.ghost_name }
-    ensures ends { Ends result (around M.mixed settings None) store.old store.new (S.left source.old) (S.left source.new) (K.written out.old.sink.now) (K.written out.new.sink.now) }
+    ensures ends { Ends result (around M.mixed tools.old.sorted tools.old.reader.max (F.files files.old)) store.old store.new
+        (traffic (S.left source.old) (K.written out.old.sink.now) (Z.shown watch.old) (F.faults files.old))
+        (traffic (S.left source.new) (K.written out.new.sink.now) (Z.shown watch.new) (F.faults files.new)) }
     ensures sound { IsSound M.mixed store.new }
     ensures accepted { result ≢ Status.BadWords }
+    ensures sufficed { result ≢ Status.Memory }
+    ensures files { F.files files.new ≡ F.files files.old }
     ensures later_read { S.faults source.old ≤ S.faults source.new }
     ensures later_write { K.faults out.old.sink.now ≤ K.faults out.new.sink.now }
     ensures read_fault { result ≡ Status.ReadFault → Rose (S.faults source.old) (S.faults source.new) }
@@ -160,7 +164,7 @@ fn carry_out<M: Mix, S: Source, K: Sink, W: Ledger, V: Ledger, U: Ledger>(
     'lines: loop {
         let cut = match script.next_line(source) {
             Ok(Some(cut)) => cut,
-            Ok(None) => return finish(place, refused, store, out),
+            Ok(None) => return finish(place, refused, store, out, watch),
             Err(ScriptFault::Read) => {
                 place.abandon(store);
                 return Status::ReadFault;
@@ -171,12 +175,16 @@ fn carry_out<M: Mix, S: Source, K: Sink, W: Ledger, V: Ledger, U: Ledger>(
             }
         };
         let line = told_line(cut, script);
-        let (next, outcome) = take_line(alloc, settings, store, place, line, scratch, counts, out);
+        let (next, outcome) = take_line(alloc, store, files, tools, place, line, out);
         place = next;
         match outcome {
             Outcome::GoesOn => {}
-            Outcome::Answered(refusal) => refused |= refusal,
+            Outcome::Answered(refusal) => {
+                refused |= refusal;
+                watch.seen(store);
+            }
             Outcome::Cut => {
+                watch.seen(store);
                 place.abandon(store);
                 return Status::WriteFault;
             }
@@ -184,19 +192,57 @@ fn carry_out<M: Mix, S: Source, K: Sink, W: Ledger, V: Ledger, U: Ledger>(
     }
 }
 
-// Carries out the script with buffers and counters of its own.
-fn run_script<M: Mix, S: Source, K: Sink, W: Ledger, V: Ledger, U: Ledger>(
+// Carries out the script over a store that may have as many triples as the settings say.
+fn carry_out_within<
+    M: Mix,
+    F: Files,
+    S: Source,
+    K: Sink,
+    Z: Watch,
+    W: Ledger,
+    V: Ledger,
+    U: Ledger,
+>(
     alloc: Global,
     settings: Settings,
+    script: &mut Script,
+    tools: &mut Tools<W, V, U>,
     store: &mut Store<M>,
+    files: &mut F,
     source: &mut S,
-    sink: &mut K,
+    out: &mut Out<'_, K>,
+    watch: &mut Z,
+) -> Status
+    requires start { script.old ≡ at_start settings.max_bytes }
+    requires limits { IsWithinLimits settings }
+    requires sorted { tools.old.sorted ≡ settings.sort }
+    requires most { tools.old.reader.max ≡ settings.max_bytes }
+    requires sound { IsSound M.mixed store.old }
+    requires empty { out.old.buffer ≡ [] }
+    ensures same_sink { out.new.sink.ghost_name ≡ out.old.sink.ghost_name }
+    ensures ends { EndsScript settings result M.mixed (F.files files.old) store.old store.new
+        (traffic (S.left source.old) (K.written out.old.sink.now) (Z.shown watch.old) (F.faults files.old))
+        (traffic (S.left source.new) (K.written out.new.sink.now) (Z.shown watch.new) (F.faults files.new)) }
+    ensures sound { IsSound M.mixed store.new }
+    ensures files { F.files files.new ≡ F.files files.old }
+    ensures later_read { S.faults source.old ≤ S.faults source.new }
+    ensures later_write { K.faults out.old.sink.now ≤ K.faults out.new.sink.now }
+    ensures read_fault { result ≡ Status.ReadFault → Rose (S.faults source.old) (S.faults source.new) }
+    ensures write_fault { result ≡ Status.WriteFault → Rose (K.faults out.old.sink.now) (K.faults out.new.sink.now) }
+{
+    store.set_max(settings.max_triples);
+    carry_out(alloc, script, tools, store, files, source, out, watch)
+}
+
+// The buffers of reading, and counters that begin at 0.
+fn tools_for<W: Ledger, V: Ledger, U: Ledger>(
+    alloc: Global,
+    settings: Settings,
     interns: Blank,
     retains: Blank,
     reads: Blank,
-) -> Status
-    requires sound { IsSound M.mixed store.old }
-    requires few { settings.most_bytes ≤ 1099511627776 }
+) -> Result<Tools<W, V, U>, Memory>
+    requires few { settings.max_bytes ≤ 1099511627776 }
     requires name { interns.name ≡ W.name }
     requires parts { interns.parts ≡ W.parts }
     requires whole { 0 < W.parts }
@@ -206,55 +252,111 @@ fn run_script<M: Mix, S: Source, K: Sink, W: Ledger, V: Ledger, U: Ledger>(
     requires third_name { reads.name ≡ U.name }
     requires third_parts { reads.parts ≡ U.parts }
     requires third_whole { 0 < U.parts }
-    ensures ends { Ends result (around M.mixed settings None) store.old store.new (S.left source.old) (S.left source.new) (K.written sink.old) (K.written sink.new) }
+    ensures sorted { IfOk result (λ tools. tools.sorted ≡ settings.sort) }
+    ensures most { IfOk result (λ tools. tools.reader.max ≡ settings.max_bytes) }
+{
+    Ok(Tools {
+        sorted: settings.sort,
+        scratch: Scratch::new(alloc)?,
+        reader: FileReader::new(alloc, settings.max_bytes)?,
+        counts: Counts {
+            interns: Steps::<W>::new(interns),
+            retains: Steps::<V>::new(retains),
+            reads: Steps::<U>::new(reads),
+        },
+    })
+}
+
+// Carries out the script with buffers and counters of its own.
+fn run_script<M: Mix, F: Files, S: Source, K: Sink, Z: Watch, W: Ledger, V: Ledger, U: Ledger>(
+    alloc: Global,
+    settings: Settings,
+    store: &mut Store<M>,
+    files: &mut F,
+    source: &mut S,
+    sink: &mut K,
+    watch: &mut Z,
+    interns: Blank,
+    retains: Blank,
+    reads: Blank,
+) -> Status
+    requires sound { IsSound M.mixed store.old }
+    requires limits { IsWithinLimits settings }
+    requires name { interns.name ≡ W.name }
+    requires parts { interns.parts ≡ W.parts }
+    requires whole { 0 < W.parts }
+    requires other_name { retains.name ≡ V.name }
+    requires other_parts { retains.parts ≡ V.parts }
+    requires other_whole { 0 < V.parts }
+    requires third_name { reads.name ≡ U.name }
+    requires third_parts { reads.parts ≡ U.parts }
+    requires third_whole { 0 < U.parts }
+    ensures ends { EndsScript settings result M.mixed (F.files files.old) store.old store.new
+        (traffic (S.left source.old) (K.written sink.old) (Z.shown watch.old) (F.faults files.old))
+        (traffic (S.left source.new) (K.written sink.new) (Z.shown watch.new) (F.faults files.new)) }
     ensures sound { IsSound M.mixed store.new }
-    ensures accepted { result ≢ Status.BadWords }
+    ensures files { F.files files.new ≡ F.files files.old }
     ensures later_read { S.faults source.old ≤ S.faults source.new }
     ensures later_write { K.faults sink.old ≤ K.faults sink.new }
     ensures read_fault { result ≡ Status.ReadFault → Rose (S.faults source.old) (S.faults source.new) }
     ensures write_fault { result ≡ Status.WriteFault → Rose (K.faults sink.old) (K.faults sink.new) }
 {
-    let Ok(mut script) = Script::new(alloc, settings.most_bytes) else {
+    let Ok(mut script) = Script::new(alloc, settings.max_bytes) else {
         return Status::Memory;
     };
-    let Ok(mut scratch) = Scratch::new(alloc) else {
+    let Ok(mut tools) = tools_for::<W, V, U>(alloc, settings, interns, retains, reads) else {
         return Status::Memory;
-    };
-    let mut counts = Counts {
-        interns: Steps::<W>::new(interns),
-        retains: Steps::<V>::new(retains),
-        reads: Steps::<U>::new(reads),
     };
     let mut out = Out::new(sink);
-    carry_out(
+    carry_out_within(
         alloc,
         settings,
         &mut script,
-        &mut scratch,
+        &mut tools,
         store,
+        files,
         source,
         &mut out,
-        &mut counts,
+        watch,
     )
+}
+
+// Writes the text of help.
+fn show_help<K: Sink>(help: &str, sink: &mut K) -> Status
+    ensures ends { WritesHelp (K.written sink.old) (K.written sink.new) result }
+    ensures later { K.faults sink.old ≤ K.faults sink.new }
+    ensures fault { result ≡ Status.WriteFault → Rose (K.faults sink.old) (K.faults sink.new) }
+{
+    match write_all(sink, help.as_bytes()) {
+        Ok(()) => Status::Done,
+        Err(_) => Status::WriteFault,
+    }
 }
 
 /// Carries out a script from the source over the store, and writes the answers to the sink.
 ///
-/// `words` are those of the command line after the program's name; none is understood. The script has at most
-/// `MAX_BYTES` bytes. Running out of memory before the script is read is `Memory`; later it refuses the one command.
-/// The store's dictionary must have exactly the terms of its graph, as a new store's has and as it is left here.
-pub fn run<M: Mix, S: Source, K: Sink>(
+/// `words` are those of the command line after the program's name. They set how many triples the store and how many bytes
+/// the script and each file may have, and whether rows are sorted. The watch is shown the store after each command, also
+/// where it was refused and where a write of its answer failed. Running out of memory before the script is read is
+/// `Memory`; later it refuses the one command. The store's dictionary must have exactly the terms of its graph, as a new
+/// store's has and as it is left here.
+pub fn run<M: Mix, F: Files, S: Source, K: Sink, Z: Watch>(
     alloc: Global,
     words: &[&str],
     store: &mut Store<M>,
+    files: &mut F,
     source: &mut S,
     sink: &mut K,
+    watch: &mut Z,
 ) -> Status
     requires settled { IsSettled store.old }
-    ensures ends { Ends result (around M.mixed (record { most_bytes = MAX_BYTES }) None) store.old store.new (S.left source.old) (S.left source.new) (K.written sink.old) (K.written sink.new) }
+    ensures ends { EndsCall (answer_to (map (λ word. word.now) words.now)) result M.mixed (F.files files.old) store.old store.new
+        (traffic (S.left source.old) (K.written sink.old) (Z.shown watch.old) (F.faults files.old))
+        (traffic (S.left source.new) (K.written sink.new) (Z.shown watch.new) (F.faults files.new)) }
+    ensures words { IsByWords (answer_to (map (λ word. word.now) words.now)) result }
     ensures settled { IsSettled store.new }
     ensures stands { Stands M.mixed store.new }
-    ensures words { (result ≡ Status.BadWords) ↔ (0 < length words.now) }
+    ensures files { F.files files.new ≡ F.files files.old }
     ensures later_read { S.faults source.old ≤ S.faults source.new }
     ensures later_write { K.faults sink.old ≤ K.faults sink.new }
     ensures read_fault { result ≡ Status.ReadFault → Rose (S.faults source.old) (S.faults source.new) }
@@ -262,18 +364,16 @@ pub fn run<M: Mix, S: Source, K: Sink>(
 {
     // This call tells the proof that the tables are the shape of the graph.
     store.triples();
-    if !words.is_empty() {
-        return Status::BadWords;
-    }
+    let settings = match read_words(alloc, words) {
+        Ok(settings) => settings,
+        Err(Refused::Help(help)) => return show_help(&help, sink),
+        Err(Refused::Bad) => return Status::BadWords,
+        Err(Refused::Memory) => return Status::Memory,
+    };
     let interns = Blank::new(1);
     let retains = Blank::new(1);
     let reads = Blank::new(1);
-    let settings = Settings {
-        most_bytes: MAX_BYTES,
-    };
-    let status = run_script::<M, S, K, Brand, Brand, Brand>(
-        alloc, settings, store, source, sink, interns, retains, reads,
-    );
-    store.triples();
-    status
+    run_script::<M, F, S, K, Z, Brand, Brand, Brand>(
+        alloc, settings, store, files, source, sink, watch, interns, retains, reads,
+    )
 }

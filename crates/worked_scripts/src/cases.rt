@@ -1,9 +1,9 @@
 //! Scripts, the answers that they want, and how they end.
 use crate::harness::run_in_pieces;
-use graph_store::Store;
+use graph_store::{NoWatch, Store};
 use std::test::Fail;
 use tentris_core::{Status, run};
-use tn_io::{MemSink, MemSource};
+use tn_io::{MemFiles, MemSink, MemSource};
 use trie_depth::SplitMix;
 
 const TWO: &str = "INSERT\n<x:a> <x:p> <x:b> .\n<x:a> <x:p> <x:c> .\nGO\n";
@@ -309,12 +309,21 @@ fn long_lines(rt: HostRuntime) -> Result<(), Fail> {
 }
 
 #[test]
-fn no_word_is_understood(rt: HostRuntime) -> Result<(), Fail> {
+fn words_that_are_bad(rt: HostRuntime) -> Result<(), Fail> {
     let alloc = rt.alloc();
     let mut source = MemSource::new(TWO.as_bytes().to_vec(alloc)?, 64, Vec::new(alloc));
     let mut sink = MemSink::new(alloc, 64, Vec::new(alloc));
+    let mut files = MemFiles::new(Vec::new(alloc), 1, Vec::new(alloc));
     let mut store = Store::<SplitMix>::new(alloc);
-    let status = run(alloc, &["--sort"], &mut store, &mut source, &mut sink);
+    let status = run(
+        alloc,
+        &["--max-triples", "0"],
+        &mut store,
+        &mut files,
+        &mut source,
+        &mut sink,
+        &mut NoWatch,
+    );
     let triples = store.triples();
     store.close();
     assert_eq!(rt; status, Status::BadWords);

@@ -1,14 +1,11 @@
 //! Runs a script over memory, and keeps what came out.
-ghost use Rattle.std.specs.Prelude.{◌<◌, ◌≤◌};
+ghost use Rattle.std.specs.Prelude.{◌<◌};
 
-use graph_store::Store;
+use graph_store::{NoWatch, Store};
 use std::alloc::{AllocError, Global};
 use tentris_core::{Status, run};
-use tn_io::{MemSink, MemSource};
+use tn_io::{MemFiles, MemSink, MemSource};
 use trie_depth::{Mix, SplitMix};
-
-/// The greatest number of triples of a graph, where a script doesn't set it.
-pub const MOST: u64 = 10_000_000;
 
 /// What a run answered, how it ended, and how many triples it left.
 #[derive(Drop)]
@@ -28,27 +25,33 @@ pub fn run_in_pieces(
 ) -> Result<Outcome, AllocError>
     requires { 0 < piece }
 {
-    run_with::<SplitMix>(alloc, script, piece, failing_read, failing_write, MOST)
+    run_with::<SplitMix>(alloc, script, piece, failing_read, failing_write, &[])
 }
 
-/// The same for a mix, and a graph that may have at most so many triples.
+/// The same for a mix and the words of a command line.
 pub fn run_with<M: Mix>(
     alloc: Global,
     script: &[u8],
     piece: usize,
     failing_read: u64,
     failing_write: u64,
-    most: u64,
+    words: &[&str],
 ) -> Result<Outcome, AllocError>
-    requires piece { 0 < piece }
-    requires some { 1 ≤ most }
-    requires few { most ≤ 500000000 }
+    requires { 0 < piece }
 {
     let mut source = MemSource::new(script.to_vec(alloc)?, piece, [failing_read].to_vec(alloc)?);
     let mut sink = MemSink::new(alloc, piece, [failing_write].to_vec(alloc)?);
+    let mut files = MemFiles::new(Vec::new(alloc), 1, Vec::new(alloc));
     let mut store = Store::<M>::new(alloc);
-    store.set_max(most);
-    let status = run(alloc, &[], &mut store, &mut source, &mut sink);
+    let status = run(
+        alloc,
+        words,
+        &mut store,
+        &mut files,
+        &mut source,
+        &mut sink,
+        &mut NoWatch,
+    );
     let triples = store.triples();
     store.close();
     Ok(Outcome {

@@ -1,5 +1,5 @@
 //! Graphs and the nodes that they share, after several histories and under two mixes.
-use crate::harness::{MOST, run_with};
+use crate::harness::run_with;
 use std::test::Fail;
 use tentris_core::Status;
 use trie_depth::{ConstMix, SplitMix};
@@ -55,10 +55,10 @@ fn graphs_share_their_nodes(rt: HostRuntime) -> Result<(), Fail> {
         if shared {
             want.extend_from_slice(SHARED.as_bytes())?;
         }
-        let split = run_with::<SplitMix>(rt.alloc(), script.as_bytes(), 64, 0, 0, MOST)?;
+        let split = run_with::<SplitMix>(rt.alloc(), script.as_bytes(), 64, 0, 0, &[])?;
         assert_eq!(rt; split.written.as_slice(), want.as_slice(), "{name}");
         assert_eq!(rt; split.status, Status::Done, "{name}");
-        let constant = run_with::<ConstMix>(rt.alloc(), script.as_bytes(), 64, 0, 0, MOST)?;
+        let constant = run_with::<ConstMix>(rt.alloc(), script.as_bytes(), 64, 0, 0, &[])?;
         assert_eq!(rt; constant.written.as_slice(), want.as_slice(), "{name}");
     }
     Ok(())
@@ -69,7 +69,14 @@ fn a_graph_that_is_full(rt: HostRuntime) -> Result<(), Fail> {
     let script =
         b"INSERT\n<x:a> <x:p> <x:b> .\n<x:a> <x:p> <x:c> .\n<x:a> <x:p> <x:d> .\nGO\nINSERT\n<x:a> <x:p> <x:b> .\n<x:a> <x:p> <x:c> .\nGO\nINSERT\n<x:a> <x:p> <x:b> .\nGO\nINSERT\n<x:a> .\n<x:a> <x:p> <x:d> .\nGO\n";
     let want = b"refused 5 full 3\nok new 2 now 2\nok new 0 now 2\nrefused 3 line 1\n";
-    let got = run_with::<SplitMix>(rt.alloc(), script.as_slice(), 64, 0, 0, 2)?;
+    let got = run_with::<SplitMix>(
+        rt.alloc(),
+        script.as_slice(),
+        64,
+        0,
+        0,
+        &["--max-triples", "2"],
+    )?;
     assert_eq!(rt; got.written.as_slice(), want.as_slice());
     assert_eq!(rt; got.status, Status::SomeRefused);
     Ok(())

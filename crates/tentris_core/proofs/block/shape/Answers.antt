@@ -5,7 +5,7 @@ use Rattle.tentris_core.proofs.BlockLemmas.{answer_step, memory_step}
 use Rattle.tentris_core.proofs.block.shape.Goals as goal
 
 pub returns-in-Ok : goal.returns-in-Ok
-returns-in-Ok g c = λ A sound. answer_step A c.args.store.now script.Shape (Shaped c.in-Ok.lines) sound (ap Shaped c.in-Ok.ensures) refl
+returns-in-Ok g c = λ A sound. answer_step A c.args.store.now script.Shape (Shaped c.in-Ok.lines) sound refl (refl, ap Shaped c.in-Ok.ensures) refl
 
 pub returns-in-Err : goal.returns-in-Err
 returns-in-Err g c = λ A sound. memory_step A c.args.store.now script.Shape sound

@@ -1,12 +1,6 @@
-use Rattle.std.proofs.Common.{subst}
-use Rattle.std.specs.Prelude.{Err}
 use Rattle.query_grammar.specs.Meaning.{query_of}
-use Rattle.query_read.specs.Reads.{Reads}
 use Rattle.tentris_core.proofs.QuestionLemmas.{fault_answer}
 use Rattle.tentris_core.proofs.question.ask.Goals as goal
-
-pub returns-in-Ok-clause-answers : goal.returns-in-Ok-clause-answers
-returns-in-Ok-clause-answers g c = λ A body plain sound e. c.list.ensures.answers A body c.args.text.now plain sound e c.in-Ok.ensures.query
 
 pub returns-in-Err-clause-answers : goal.returns-in-Err-clause-answers
 returns-in-Err-clause-answers g c = λ A body plain sound e. fault_answer A c.args.store.now body sound c.args.text.now c.cause_of.result _ _ _ e (c.cause_of.ensures (query_of c.args.text.now) c.in-Err.ensures.query) c.pass_on.ensures.text

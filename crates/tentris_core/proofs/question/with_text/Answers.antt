@@ -1,9 +1,9 @@
 use Rattle.std.proofs.Common.{arith, ◌≡◌, ◌∙◌, ◌∷◌, [], ◌++◌, sym, subst, ap}
-use Rattle.std.specs.Prelude.{Some, None}
+use Rattle.std.specs.Prelude.{Some}
 use Rattle.answer_text.specs.declared.Refusal.TheVariants as cause
-use Rattle.tentris_core.specs.declared.question.Question.TheVariants.{Text, Refused}
+use Rattle.tentris_core.specs.declared.question.Question.TheVariants.{Refused}
 use Rattle.script_model.specs.Commands.{question_of}
-use Rattle.tentris_core.specs.Batches.{lent_line}
+use Rattle.line_batch.specs.Batches.{lent_line}
 use Rattle.tentris_core.specs.Questions.{IsGathered}
 use Rattle.tentris_core.proofs.QuestionLemmas.{line_long, text_long, text_more}
 use Rattle.tentris_core.proofs.question.with_text.Goals as goal

@@ -1,12 +1,10 @@
-use Rattle.std.proofs.Common.{subst}
-use Rattle.tentris_core.specs.Places.{IsAt}
-use Rattle.tentris_core.proofs.BlockLemmas.{inside_at, asks_at}
+use Rattle.std.proofs.Common.{subst, sym}
+use Rattle.graph_store.specs.State.{IsSettled}
+use Rattle.tentris_core.proofs.RunLemmas.{ready}
 use Rattle.tentris_core.proofs.running.finish.Goals as goal
 
-pub returns-in-Inside-clause-store : goal.returns-in-Inside-clause-store
-returns-in-Inside-clause-store g c = λ p s at.
-    let h = inside_at p s c.args.store.now c.in-Inside.block (subst (IsAt p s c.args.store.now) c.in-Inside.is at) in
-    c.abandon.ensures s h.change _ h.is.batch
+pub abandon-requires : goal.abandon-requires
+abandon-requires g c = record { ready = ready c.requires.been.position c.requires.been.last c.args.store.now c.args.place c.requires.been.sound c.requires.been.is_at }
 
-pub returns-in-Asks-clause-store : goal.returns-in-Asks-clause-store
-returns-in-Asks-clause-store g c = λ p s at. asks_at p s c.args.store.now _ (subst (IsAt p s c.args.store.now) c.in-Asks.is at)
+pub seen-requires : goal.seen-requires
+seen-requires g c = record { settled = subst IsSettled (sym (c.abandon.ensures c.requires.been.position c.requires.been.last c.requires.been.is_at)) c.requires.been.sound.settled }

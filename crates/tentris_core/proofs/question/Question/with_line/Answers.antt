@@ -1,5 +1,5 @@
 use Rattle.std.proofs.Common.{subst}
-use Rattle.tentris_core.specs.Batches.{lent_line}
+use Rattle.line_batch.specs.Batches.{lent_line}
 use Rattle.tentris_core.specs.Questions.{IsGathered}
 use Rattle.tentris_core.proofs.QuestionLemmas.{refused_more}
 use Rattle.tentris_core.proofs.question.Question.with_line.Goals as goal

@@ -1,0 +1,345 @@
+//! What lines say: triples that are staged or marked in the store, until the last of them has come.
+ghost use Rattle.std.specs.Prelude.{◌≡◌, ◌≤◌, ℕ, List, length, Some, IfSome};
+ghost use Rattle.ntriples_model.specs.Proper.{IsProperTriple};
+ghost use Rattle.rdf_term.specs.Seen.{lent_triple};
+ghost use Rattle.run_model.specs.Sayings.{Saying, says};
+ghost use Rattle.run_model.specs.Loads.{saying_of};
+ghost use Rattle.script_model.specs.Commands as script;
+ghost use Rattle.graph_store.specs.State.{State, IsSettled};
+ghost use Rattle.graph_store.specs.Staging.{Fits, before, AreMarked};
+ghost use Rattle.line_batch.specs.Sound.{IsSound};
+ghost use Rattle.line_batch.specs.Seen.{answer_of};
+ghost use Rattle.line_batch.specs.Batches.{lent_line, MayBeScope, IsBatch, IsNone, IsReady, AreStaged, AreToGo, ChangesStore};
+ghost use Rattle.line_batch.specs.Batches.{StagesOneMore, MarksOneMore, HasOneMore};
+ghost use Rattle.line_batch.specs.declared.batch.Batch.TheVariants.{Inserts, Deletes};
+
+use crate::answer::Answer;
+use crate::counts::Counts;
+use answer_text::Refusal;
+use graph_store::{StageFault, Staged, Store, Taken};
+use ntriples::read_line;
+use rdf_term::{Scratch, TripleRef};
+use std::alloc::Global;
+use std::sync::ledger::Ledger;
+use trie_depth::Mix;
+
+/// What lines say so far. It must be spent, by `carry_out` or `abandon`.
+pub enum Batch {
+    /// Triples that are staged.
+    Inserts(Staged),
+    /// Triples that are marked.
+    Deletes(Taken),
+    /// A line can't be carried out, and so none of them is.
+    Refused(Refusal),
+}
+
+// Stages a triple, or says why it can't be put in.
+fn stage_triple<M: Mix>(
+    store: &mut Store<M>,
+    staged: &mut Staged,
+    triple: TripleRef<'_>,
+    number: u64,
+) -> Option<Refusal>
+    requires fits { Fits store.old staged.old }
+    requires proper { IsProperTriple (lent_triple triple) }
+    ensures fits { Fits store.new staged.new }
+    ensures before { before store.new staged.new ≡ before store.old staged.old }
+    ensures triple { StagesOneMore number (saying_of (lent_triple triple.entry))
+        store.old staged.old store.new staged.new result }
+{
+    match store.stage(staged, triple) {
+        Ok(()) => None,
+        Err(StageFault::Full) => Some(Refusal::Full(number)),
+        Err(StageFault::Memory) => Some(Refusal::Memory),
+    }
+}
+
+// Stages what a line says, or says why it can't be put in.
+fn stage<M: Mix>(
+    store: &mut Store<M>,
+    staged: &mut Staged,
+    line: &[u8],
+    scope: &str,
+    number: u64,
+    scratch: &mut Scratch,
+) -> Option<Refusal>
+    requires short { length line.now ≤ 1048576 }
+    requires scope { MayBeScope scope.now }
+    requires fits { Fits store.old staged.old }
+    ensures fits { Fits store.new staged.new }
+    ensures before { before store.new staged.new ≡ before store.old staged.old }
+    ensures line { StagesOneMore number (says scope.now (Some line.now))
+        store.old staged.old store.new staged.new result }
+{
+    match read_line(line, scope, scratch) {
+        Ok(None) => {
+            if store.is_over() {
+                Some(Refusal::Full(number))
+            } else {
+                None
+            }
+        }
+        Ok(Some(triple)) => stage_triple(store, staged, triple, number),
+        Err(_) => Some(Refusal::Line(number)),
+    }
+}
+
+// Marks a triple, or says why it can't be taken out.
+fn mark_triple<M: Mix>(
+    store: &Store<M>,
+    taken: &mut Taken,
+    triple: TripleRef<'_>,
+) -> Option<Refusal>
+    ensures there { AreMarked store.now taken.old → AreMarked store.now taken.new }
+    ensures triple { (number : ℕ)
+        → MarksOneMore number (saying_of (lent_triple triple.entry)) store.now taken.old taken.new result }
+{
+    match store.mark(taken, triple) {
+        Ok(()) => None,
+        Err(_) => Some(Refusal::Memory),
+    }
+}
+
+// Marks what a line says, or says why it can't be taken out.
+fn mark<M: Mix>(
+    store: &Store<M>,
+    taken: &mut Taken,
+    line: &[u8],
+    scope: &str,
+    number: u64,
+    scratch: &mut Scratch,
+) -> Option<Refusal>
+    requires short { length line.now ≤ 1048576 }
+    requires scope { MayBeScope scope.now }
+    ensures there { AreMarked store.now taken.old → AreMarked store.now taken.new }
+    ensures line { MarksOneMore number (says scope.now (Some line.now)) store.now taken.old taken.new result }
+{
+    match read_line(line, scope, scratch) {
+        Ok(None) => None,
+        Ok(Some(triple)) => mark_triple(store, taken, triple),
+        Err(_) => Some(Refusal::Line(number)),
+    }
+}
+
+// The staged triples with one more, of this number.
+fn insert_triple<M: Mix>(
+    store: &mut Store<M>,
+    mut staged: Staged,
+    triple: TripleRef<'_>,
+    number: u64,
+) -> Batch
+    requires fits { Fits store.old staged }
+    requires proper { IsProperTriple (lent_triple triple) }
+    ensures ready { IsReady store.new result }
+    ensures more { HasOneMore number (saying_of (lent_triple triple.entry))
+        store.old (Inserts staged) store.new result }
+{
+    match stage_triple(store, &mut staged, triple, number) {
+        None => Batch::Inserts(staged),
+        Some(cause) => {
+            store.abandon(staged);
+            Batch::Refused(cause)
+        }
+    }
+}
+
+// The staged triples with those of one more line, of this number.
+fn insert_line<M: Mix>(
+    store: &mut Store<M>,
+    mut staged: Staged,
+    line: Option<&[u8]>,
+    scope: &str,
+    number: u64,
+    scratch: &mut Scratch,
+) -> Batch
+    requires short { IfSome line (λ l. length l.now ≤ 1048576) }
+    requires scope { MayBeScope scope.now }
+    requires fits { Fits store.old staged }
+    ensures ready { IsReady store.new result }
+    ensures more { HasOneMore number (says scope.now (lent_line line.entry))
+        store.old (Inserts staged) store.new result }
+{
+    let Some(line) = line else {
+        store.abandon(staged);
+        return Batch::Refused(Refusal::Line(number));
+    };
+    match stage(store, &mut staged, line, scope, number, scratch) {
+        None => Batch::Inserts(staged),
+        Some(why) => {
+            store.abandon(staged);
+            Batch::Refused(why)
+        }
+    }
+}
+
+// The marked triples with one more.
+fn delete_triple<M: Mix>(store: &Store<M>, mut taken: Taken, triple: TripleRef<'_>) -> Batch
+    requires settled { IsSettled store.now }
+    requires there { AreMarked store.now taken }
+    ensures ready { IsReady store.now result }
+    ensures more { (number : ℕ)
+        → HasOneMore number (saying_of (lent_triple triple.entry)) store.now (Deletes taken) store.now result }
+{
+    match mark_triple(store, &mut taken, triple) {
+        None => Batch::Deletes(taken),
+        Some(cause) => Batch::Refused(cause),
+    }
+}
+
+// The marked triples with those of one more line, of this number.
+fn delete_line<M: Mix>(
+    store: &Store<M>,
+    mut taken: Taken,
+    line: Option<&[u8]>,
+    scope: &str,
+    number: u64,
+    scratch: &mut Scratch,
+) -> Batch
+    requires short { IfSome line (λ l. length l.now ≤ 1048576) }
+    requires scope { MayBeScope scope.now }
+    requires settled { IsSettled store.now }
+    requires there { AreMarked store.now taken }
+    ensures ready { IsReady store.now result }
+    ensures more { HasOneMore number (says scope.now (lent_line line.entry))
+        store.now (Deletes taken) store.now result }
+{
+    let Some(line) = line else {
+        return Batch::Refused(Refusal::Line(number));
+    };
+    match mark(store, &mut taken, line, scope, number, scratch) {
+        None => Batch::Deletes(taken),
+        Some(why) => Batch::Refused(why),
+    }
+}
+
+impl Batch {
+    /// Triples that are put in, none yet.
+    pub fn inserts<M: Mix>(alloc: Global, store: &Store<M>) -> Batch
+        requires { IsSettled store.now }
+        ensures ready { IsReady store.now result }
+        ensures none { IsNone store.now script.Inserts result }
+    {
+        // This call tells the proof how many triples there are at most.
+        store.triples();
+        Batch::Inserts(Staged::new(alloc))
+    }
+
+    /// Triples that are taken out, none yet.
+    pub fn deletes<M: Mix>(alloc: Global, store: &Store<M>) -> Batch
+        requires { IsSettled store.now }
+        ensures ready { IsReady store.now result }
+        ensures none { IsNone store.now script.Deletes result }
+    {
+        Batch::Deletes(Taken::new(alloc))
+    }
+
+    /// With one more line, of this number, which is read under the scope. None is a line that is too long.
+    pub fn with_line<M: Mix>(
+        self,
+        store: &mut Store<M>,
+        line: Option<&[u8]>,
+        scope: &str,
+        number: u64,
+        scratch: &mut Scratch,
+    ) -> Batch
+        requires short { IfSome line (λ l. length l.now ≤ 1048576) }
+        requires scope { MayBeScope scope.now }
+        requires ready { IsReady store.old self }
+        ensures ready { IsReady store.new result }
+        ensures more { HasOneMore number (says scope.now (lent_line line.entry)) store.old self store.new result }
+    {
+        match self {
+            Batch::Inserts(staged) => insert_line(store, staged, line, scope, number, scratch),
+            Batch::Deletes(taken) => delete_line(store, taken, line, scope, number, scratch),
+            Batch::Refused(cause) => Batch::Refused(cause),
+        }
+    }
+
+    /// With one more triple, as a line of this number would say it.
+    pub fn with_triple<M: Mix>(
+        self,
+        store: &mut Store<M>,
+        triple: TripleRef<'_>,
+        number: u64,
+    ) -> Batch
+        requires proper { IsProperTriple (lent_triple triple) }
+        requires ready { IsReady store.old self }
+        ensures ready { IsReady store.new result }
+        ensures more { HasOneMore number (saying_of (lent_triple triple.entry)) store.old self store.new result }
+    {
+        match self {
+            Batch::Inserts(staged) => insert_triple(store, staged, triple, number),
+            Batch::Deletes(taken) => delete_triple(store, taken, triple),
+            Batch::Refused(cause) => Batch::Refused(cause),
+        }
+    }
+
+    /// Puts in what is staged, or takes out what is marked.
+    pub fn carry_out<M: Mix, W: Ledger, V: Ledger, U: Ledger>(
+        self,
+        alloc: Global,
+        store: &mut Store<M>,
+        counts: &mut Counts<W, V, U>,
+    ) -> Answer
+        requires ready { IsReady store.old self }
+        ensures { (s : State) (change : script.Change) (said : List Saying) → IsSound M.mixed s → IsBatch s change said store.old self
+            → ChangesStore M.mixed s change said store.new (answer_of result) }
+    {
+        match self {
+            Batch::Inserts(staged) => put_in(alloc, store, staged, counts),
+            Batch::Deletes(taken) => take_out(alloc, store, taken, counts),
+            Batch::Refused(cause) => Answer::Refused(cause),
+        }
+    }
+
+    /// Leaves the store as it was before the first line.
+    pub fn abandon<M: Mix>(self, store: &mut Store<M>)
+        requires ready { IsReady store.old self }
+        ensures { (s : State) (change : script.Change) (said : List Saying) → IsBatch s change said store.old self → store.new ≡ s }
+    {
+        match self {
+            Batch::Inserts(staged) => store.abandon(staged),
+            Batch::Deletes(_) | Batch::Refused(_) => {}
+        }
+    }
+}
+
+// Puts the staged triples in.
+fn put_in<M: Mix, W: Ledger, V: Ledger, U: Ledger>(
+    alloc: Global,
+    store: &mut Store<M>,
+    staged: Staged,
+    counts: &mut Counts<W, V, U>,
+) -> Answer
+    requires fits { Fits store.old staged }
+    ensures { (s : State) (said : List Saying) → IsSound M.mixed s → AreStaged s said store.old staged
+        → ChangesStore M.mixed s script.Inserts said store.new (answer_of result) }
+{
+    let inserted = store.insert(alloc, staged, &mut counts.interns, &mut counts.retains);
+    // This call tells the proof that the tables are the shape of the graph.
+    store.triples();
+    match inserted {
+        Ok(change) => Answer::New(change),
+        Err(_) => Answer::Refused(Refusal::Memory),
+    }
+}
+
+// Takes the marked triples out.
+fn take_out<M: Mix, W: Ledger, V: Ledger, U: Ledger>(
+    alloc: Global,
+    store: &mut Store<M>,
+    taken: Taken,
+    counts: &mut Counts<W, V, U>,
+) -> Answer
+    requires ready { IsReady store.old (Deletes taken) }
+    ensures { (said : List Saying) → IsSound M.mixed store.old → AreToGo store.old said taken
+        → ChangesStore M.mixed store.old script.Deletes said store.new (answer_of result) }
+{
+    let deleted = store.delete(alloc, taken, &mut counts.interns, &mut counts.retains);
+    // This call tells the proof that the tables are the shape of the graph.
+    store.triples();
+    match deleted {
+        Ok(change) => Answer::Gone(change),
+        Err(_) => Answer::Refused(Refusal::Memory),
+    }
+}

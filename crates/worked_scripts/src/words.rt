@@ -1,12 +1,7 @@
-//! The words of the command line, sorted rows, and a large graph.
+//! The words of the command line, sorted rows, and the first of many rows.
 use crate::harness::run_with;
-use generated_triples::generated_triple;
-use graph_store::{NoWatch, Store};
-use rdf_term::{Scratch, TermRef};
-use std::alloc::{AllocError, Global};
 use std::test::Fail;
-use tentris_core::{Status, run};
-use tn_io::{Bytes, MemFiles, MemSink, MemSource, Text};
+use tentris_core::Status;
 use trie_depth::SplitMix;
 
 const TWO: &str = "INSERT\n<x:a> <x:p> <x:b> .\n<x:a> <x:p> <x:c> .\nGO\n";
@@ -81,63 +76,5 @@ fn the_first_of_many_rows(rt: HostRuntime) -> Result<(), Fail> {
     let got = run_with::<SplitMix>(rt.alloc(), script.as_bytes(), 4096, 0, 0, &[])?;
     assert_eq!(rt; got.status, Status::Done);
     assert!(rt; got.written.ends_with(b"ok rows 1\n"));
-    Ok(())
-}
-
-// The generated triples with odd numbers, one line each.
-fn odd_lines(alloc: Global, count: u64, salt: u64) -> Result<Vec<u8>, AllocError>
-    requires { count ≤ 500000000 }
-{
-    let mut lines = Vec::new(alloc);
-    let Ok(mut scratch) = Scratch::new(alloc) else {
-        return Ok(lines);
-    };
-    for k in 0..count {
-        if k % 2 == 0 {
-            continue;
-        }
-        let triple = generated_triple(count, salt, k, &mut scratch);
-        for term in [triple.s, triple.p, triple.o] {
-            if let TermRef::Iri(text) = term {
-                lines.push(b'<')?;
-                lines.extend_from_slice(text.as_bytes())?;
-                lines.extend_from_slice(b"> ")?;
-            }
-        }
-        lines.extend_from_slice(b".\n")?;
-    }
-    Ok(lines)
-}
-
-#[test]
-fn a_large_graph(rt: HostRuntime) -> Result<(), Fail> {
-    let alloc = rt.alloc();
-    let script = "GENERATE 200000 7\n\
-        QUERY\nSELECT * { ?a <urn:p:0> ?b . ?b <urn:p:1> ?c . ?c <urn:p:2> ?a }\nGO\n\
-        UNLOAD f\nSTATS\n";
-    let want =
-        "ok new 187501 now 187501\n?a\t?b\t?c\n<urn:n:1244>\t<urn:n:5382>\t<urn:n:6393>\nok rows 1\n\
-        ok gone 87501 now 100000\ntriples 100000\nterms 44403\ntwo 61631\none 35827\nok stats\n";
-    let Ok(name) = Text::of(alloc, "f") else {
-        return Err(AllocError.into());
-    };
-    let mut named = Vec::new(alloc);
-    named.push((name, Bytes::of(odd_lines(alloc, 200_000, 7)?)))?;
-    let mut files = MemFiles::new(named, 100_000, Vec::new(alloc));
-    let mut source = MemSource::new(script.as_bytes().to_vec(alloc)?, 4096, Vec::new(alloc));
-    let mut sink = MemSink::new(alloc, 4096, Vec::new(alloc));
-    let mut store = Store::<SplitMix>::new(alloc);
-    let status = run(
-        alloc,
-        &["--sort"],
-        &mut store,
-        &mut files,
-        &mut source,
-        &mut sink,
-        &mut NoWatch,
-    );
-    store.close();
-    assert_eq!(rt; status, Status::Done);
-    assert_eq!(rt; sink.bytes(), want.as_bytes());
     Ok(())
 }

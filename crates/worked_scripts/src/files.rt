@@ -1,4 +1,6 @@
 //! Scripts with files, words and a watch.
+ghost use Rattle.std.specs.Prelude.{◌<◌};
+
 use graph_store::{KeepDumps, NoWatch, Store, Watch};
 use std::alloc::{AllocError, Global};
 use std::test::Fail;

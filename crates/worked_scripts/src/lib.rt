@@ -6,10 +6,6 @@ mod cases;
 #[cfg(test)]
 mod faults;
 #[cfg(test)]
-mod files;
-#[cfg(test)]
 mod harness;
 #[cfg(test)]
 mod shapes;
-#[cfg(test)]
-mod words;

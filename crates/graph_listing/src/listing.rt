@@ -48,13 +48,18 @@ impl<'a> Model for Listing<'a> {
 impl<'a> Listing<'a> {
     /// A listing of which no row was given yet. Whatever it may give answers the query over the graph. A constant that the
     /// graph doesn't have matches nothing, and neither does a literal as subject.
-    pub fn make(alloc: Global, graph: GraphView<'a>, query: &Query) -> Result<Listing<'a>, Memory>
+    pub fn make<W: Ledger>(
+        alloc: Global,
+        graph: GraphView<'a>,
+        query: &Query,
+        reads: &mut Steps<W>,
+    ) -> Result<Listing<'a>, Memory>
         requires { IsLabelled query.now }
         ensures columns { IfOk result (λ s. s.columns ≡ column_labels (query_seen query.now)) }
         ensures present { IfOk result (λ s. s.present ≡ None) }
         ensures answers { IfOk result (λ s. GivesAnswers query.now (graph_in graph.entry) s) }
     {
-        let starts = starts_of(alloc, graph, &query.patterns)?;
+        let starts = starts_of(alloc, graph, &query.patterns, reads)?;
         let lister = Lister::make(alloc, &starts, query)?;
         Ok(Listing {
             lister,

@@ -1,5 +1,5 @@
 //! What is left of a query's patterns once their constants are fixed.
-ghost use Rattle.std.specs.Prelude.{◌≡◌, ℕ, ◌++◌, ◌<◌, ◌≤◌, List, length, IfOk, IfSome, Some};
+ghost use Rattle.std.specs.Prelude.{◌≡◌, ℕ, ◌++◌, ◌≤◌, List, length, IfOk, IfSome, Some};
 ghost use Rattle.graph_shape.specs.GraphShapes.{tuples_of};
 ghost use Rattle.trie_depth.specs.Masks.{FitsDepth, n_positions};
 ghost use Rattle.query_plan.specs.Labels.{label_of, pattern_labels};
@@ -12,8 +12,7 @@ use bag_list::Start;
 use graph_view::GraphView;
 use query_plan::{Pattern, Patterns, Place};
 use std::alloc::Global;
-use std::marker::Brand;
-use std::sync::ledger::{Blank, Ledger};
+use std::sync::ledger::Ledger;
 use term_dict::Dict;
 use trie_depth::{Mask, Memory, Operand, Steps};
 use trie_view::Sub;
@@ -25,10 +24,11 @@ const PREDICATE: Mask = Mask(2);
 const OBJECT: Mask = Mask(4);
 
 /// What is left of each pattern, in order.
-pub(crate) fn starts_of<'a>(
+pub(crate) fn starts_of<'a, W: Ledger>(
     alloc: Global,
     graph: GraphView<'a>,
     patterns: &Patterns,
+    reads: &mut Steps<W>,
 ) -> Result<Vec<Start<Sub<'a>>>, Memory>
     ensures { IfOk result (λ starts. AreStartsIn graph.entry patterns.now starts.items) }
 {
@@ -37,7 +37,7 @@ pub(crate) fn starts_of<'a>(
     for i in 0..patterns.len() {
         let pattern = patterns.at(i);
         starts.push(Start {
-            op: left_by::<Brand>(graph.all.dict, triples, pattern, Blank::new(1)),
+            op: left_by(graph.all.dict, triples, pattern, reads),
             labels: labels_of(pattern),
         })?;
     }
@@ -59,18 +59,14 @@ fn left_by<'a, W: Ledger>(
     dict: &Dict,
     triples: Option<Sub<'a>>,
     pattern: &Pattern,
-    blank: Blank,
+    reads: &mut Steps<W>,
 ) -> Option<Sub<'a>>
-    requires name { blank.name ≡ W.name }
-    requires parts { blank.parts ≡ W.parts }
-    requires whole { 0 < W.parts }
     requires deep { IfSome triples (λ s. sub_depth s ≡ 3) }
     ensures { FixesPattern dict.now pattern.now triples.entry result }
 {
-    let mut reads = Steps::<W>::new(blank);
-    let by_object = fixed(dict, triples?, &pattern.o, OBJECT, &mut reads)?;
-    let by_predicate = fixed(dict, by_object, &pattern.p, PREDICATE, &mut reads)?;
-    fixed(dict, by_predicate, &pattern.s, SUBJECT, &mut reads)
+    let by_object = fixed(dict, triples?, &pattern.o, OBJECT, reads)?;
+    let by_predicate = fixed(dict, by_object, &pattern.p, PREDICATE, reads)?;
+    fixed(dict, by_predicate, &pattern.s, SUBJECT, reads)
 }
 
 /// The tuples that have the place's constant at a position, if there are any; all, where a label stands at the place.

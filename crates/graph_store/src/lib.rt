@@ -8,6 +8,7 @@
 
 mod ids;
 mod listed;
+mod look_up;
 mod report;
 mod staged;
 mod store;

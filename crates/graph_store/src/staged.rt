@@ -10,6 +10,7 @@ ghost use Rattle.graph_store.specs.State.{graph, most_triples, IsSettled};
 ghost use Rattle.graph_store.specs.Staging.{nothing_staged, staged_graph, with_new, Fits, before, IsFull};
 ghost use Rattle.graph_store.specs.declared.staged.StageFault.TheVariants as fault;
 
+use crate::look_up::has;
 use crate::store::{Changed, Store};
 use crate::terms::{ids_of, intern_triple, remove_all, take_back};
 use crate::trips::Trips;
@@ -106,7 +107,7 @@ impl<M: Mix> Store<M> {
         let Some(trip) = ids_of(&self.dict, triple) else {
             return false;
         };
-        self.view().has(trip) || staged.trips.has(trip)
+        has(self.view(), trip) || staged.trips.has(trip)
     }
 
     /// Stages a triple for which there is a place.
@@ -126,7 +127,7 @@ impl<M: Mix> Store<M> {
         self.dict.len();
         let keep = staged.added.len();
         let trip = intern_triple(&mut self.dict, &mut staged.added, triple)?;
-        if GraphView::of(&self.ctx, &self.root, &self.dict).has(trip) {
+        if has(GraphView::of(&self.ctx, &self.root, &self.dict), trip) {
             return Ok(());
         }
         if let Err(fault) = staged.trips.put(trip) {

@@ -16,10 +16,11 @@ ghost use Rattle.graph_store.specs.Staging.{marked_graph, with_marked, AreMarked
 ghost use Rattle.graph_store.specs.Forgotten.{Forgets};
 
 use crate::ids::ids_in;
+use crate::look_up::{has, is_used};
 use crate::store::{Changed, Store};
 use crate::terms::ids_of;
 use crate::trips::Trips;
-use graph_view::{GraphView, is_used};
+use graph_view::GraphView;
 use ntriples::TripleRef;
 use std::alloc::Global;
 use std::marker::Model;
@@ -68,7 +69,7 @@ impl<M: Mix> Store<M> {
         let Some(trip) = ids_of(&self.dict, triple) else {
             return Ok(());
         };
-        if self.view().has(trip) {
+        if has(self.view(), trip) {
             taken.trips.put(trip)?;
         }
         Ok(())

@@ -12,9 +12,10 @@ ghost use Rattle.graph_view.specs.Read.{IsRead, set_in};
 
 use crate::look_up;
 use crate::tables::TablesView;
+use std::sync::ledger::Ledger;
 use term_dict::Dict;
 use trie_context::{Context, Root};
-use trie_depth::{Mix, Trip};
+use trie_depth::{Mix, Steps, Trip};
 use trie_view::Sub;
 
 /// The graph that a root stands for. The root's row is there, and the dictionary has the Ids of its triples.
@@ -64,9 +65,9 @@ impl<'a> GraphView<'a> {
     }
 
     /// Whether the graph has the triple.
-    pub fn has(self, trip: Trip) -> bool
+    pub fn has<W: Ledger>(self, trip: Trip, reads: &mut Steps<W>) -> bool
         ensures { result ≡ has_tuple (triples_in self.entry) (trip_tuple trip) }
     {
-        look_up::has(self.operand(), trip)
+        look_up::has(self.operand(), trip, reads)
     }
 }

@@ -1,4 +1,4 @@
-//! Whether an operand of triples has one of them, and whether any of its triples has an Id.
+//! Whether an operand of triples has one of them, and whether any of its triples has an Id. Each read is counted.
 ghost use Rattle.std.specs.Prelude.{◌≡◌, ◌↔◌, ◌<◌, IsTrue, IfSome};
 ghost use Rattle.hypertrie_model.specs.Sets.{has as has_tuple};
 ghost use Rattle.trie_depth.specs.Tuples.{trip_tuple};
@@ -6,8 +6,7 @@ ghost use Rattle.trie_view.specs.Subs.{sub_depth, sub_set};
 ghost use Rattle.graph_image.specs.Images.{IsUsed};
 ghost use Rattle.graph_view.specs.Read.{set_in};
 
-use std::marker::Brand;
-use std::sync::ledger::{Blank, Ledger};
+use std::sync::ledger::Ledger;
 use trie_depth::{Id, Mask, Operand, Steps, Trip};
 use trie_view::Sub;
 
@@ -17,7 +16,8 @@ const PREDICATE: Mask = Mask(2);
 
 const OBJECT: Mask = Mask(4);
 
-fn found<W: Ledger>(graph: Option<Sub<'_>>, trip: Trip, reads: &mut Steps<W>) -> bool
+/// Whether the triples have this one; none where there is no operand.
+pub fn has<W: Ledger>(graph: Option<Sub<'_>>, trip: Trip, reads: &mut Steps<W>) -> bool
     requires deep { IfSome graph (λ s. sub_depth s ≡ 3) }
     ensures { result ≡ has_tuple (set_in sub_set graph.entry) (trip_tuple trip) }
 {
@@ -33,26 +33,8 @@ fn found<W: Ledger>(graph: Option<Sub<'_>>, trip: Trip, reads: &mut Steps<W>) ->
     keys.fix(SUBJECT, trip.2, reads).is_some()
 }
 
-fn found_by<W: Ledger>(graph: Option<Sub<'_>>, trip: Trip, blank: Blank) -> bool
-    requires deep { IfSome graph (λ s. sub_depth s ≡ 3) }
-    requires name { blank.name ≡ W.name }
-    requires parts { blank.parts ≡ W.parts }
-    requires whole { 0 < W.parts }
-    ensures { result ≡ has_tuple (set_in sub_set graph.entry) (trip_tuple trip) }
-{
-    let mut reads = Steps::<W>::new(blank);
-    found(graph, trip, &mut reads)
-}
-
-/// Whether the triples have this one; none where there is no operand.
-pub fn has(graph: Option<Sub<'_>>, trip: Trip) -> bool
-    requires deep { IfSome graph (λ s. sub_depth s ≡ 3) }
-    ensures { result ≡ has_tuple (set_in sub_set graph.entry) (trip_tuple trip) }
-{
-    found_by::<Brand>(graph, trip, Blank::new(1))
-}
-
-fn used<W: Ledger>(graph: Option<Sub<'_>>, id: Id, reads: &mut Steps<W>) -> bool
+/// Whether a triple has the Id.
+pub fn is_used<W: Ledger>(graph: Option<Sub<'_>>, id: Id, reads: &mut Steps<W>) -> bool
     requires deep { IfSome graph (λ s. sub_depth s ≡ 3) }
     ensures { IsTrue result ↔ IsUsed (set_in sub_set graph.entry) id.0 }
 {
@@ -66,23 +48,4 @@ fn used<W: Ledger>(graph: Option<Sub<'_>>, id: Id, reads: &mut Steps<W>) -> bool
         return true;
     }
     triples.fix(OBJECT, id, reads).is_some()
-}
-
-fn used_by<W: Ledger>(graph: Option<Sub<'_>>, id: Id, blank: Blank) -> bool
-    requires deep { IfSome graph (λ s. sub_depth s ≡ 3) }
-    requires name { blank.name ≡ W.name }
-    requires parts { blank.parts ≡ W.parts }
-    requires whole { 0 < W.parts }
-    ensures { IsTrue result ↔ IsUsed (set_in sub_set graph.entry) id.0 }
-{
-    let mut reads = Steps::<W>::new(blank);
-    used(graph, id, &mut reads)
-}
-
-/// Whether a triple has the Id.
-pub fn is_used(graph: Option<Sub<'_>>, id: Id) -> bool
-    requires deep { IfSome graph (λ s. sub_depth s ≡ 3) }
-    ensures { IsTrue result ↔ IsUsed (set_in sub_set graph.entry) id.0 }
-{
-    used_by::<Brand>(graph, id, Blank::new(1))
 }

@@ -7,7 +7,7 @@ use Rattle.graph_listing.proofs.PartLemmas.{zip_more}
 use Rattle.graph_listing.proofs.starts.starts_of.Goals as goal
 
 pub loop-i-preserved : goal.loop-i-preserved
-loop-i-preserved c =
+loop-i-preserved g c =
     let terms = c.args.graph.all.dict.now in
     let G = graph_in c.args.graph in
     let patterns = c.args.patterns.now in

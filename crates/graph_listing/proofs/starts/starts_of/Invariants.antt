@@ -3,8 +3,5 @@ use Rattle.graph_view.specs.Views.{graph_in}
 use Rattle.graph_listing.specs.Parts.{AreStartsOf}
 use Rattle.graph_listing.proofs.starts.starts_of.Given as goal
 
-abbrev pub ghosts-left_by : goal.ghosts-left_by
-ghosts-left_by a = record { name = a.blank.name; parts = a.blank.parts }
-
 abbrev pub invariant-loop-i : goal.invariant-loop-i
-invariant-loop-i l = AreStartsOf l.graph.all.dict.now (graph_in l.graph) (take l.i l.patterns) l.starts.items
+invariant-loop-i g l = AreStartsOf l.graph.all.dict.now (graph_in l.graph) (take l.i l.patterns) l.starts.items

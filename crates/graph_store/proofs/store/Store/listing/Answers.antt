@@ -9,5 +9,5 @@ use Rattle.graph_store.proofs.store.Store.listing.Goals as goal
 
 pub returns-clause-answers : goal.returns-clause-answers
 returns-clause-answers g c =
-    subst (λ (G : Graph). IfOk c.make.result (λ s. (rows : List Row) → MayGive s rows → IsAnswerTo (query_seen c.args.query.now) G rows))
-    (λ j. graph_of (c.view.ensures.terms j) (c.view.ensures.triples j)) c.make.ensures.answers
+    subst (λ (G : Graph). IfOk c.made.result (λ s. (rows : List Row) → MayGive s rows → IsAnswerTo (query_seen c.args.query.now) G rows))
+    (λ j. graph_of (c.view.ensures.terms j) (c.view.ensures.triples j)) c.made.ensures.answers

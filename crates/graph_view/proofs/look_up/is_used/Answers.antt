@@ -9,7 +9,7 @@ use Rattle.trie_view.specs.PlaceLaws.{known_deep}
 use Rattle.graph_image.specs.Images.{IsUsed}
 use Rattle.graph_view.specs.Read.{set_in}
 use Rattle.graph_view.proofs.FoundLemmas.{used_at, used_nowhere}
-use Rattle.graph_view.proofs.look_up.used.Goals as goal
+use Rattle.graph_view.proofs.look_up.is_used.Goals as goal
 
 three : (s : Sub) → sub_depth s ≡ 3 → HasDepth 3 (sub_set s)
 three s depth = subst (λ d. HasDepth d (sub_set s)) depth (known_deep s.tables.now s.place s.known)

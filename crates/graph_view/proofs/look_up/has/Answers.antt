@@ -9,7 +9,7 @@ use Rattle.trie_view.specs.Subs.{sub_depth, sub_set}
 use Rattle.trie_view.specs.PlaceLaws.{known_deep}
 use Rattle.graph_view.specs.Read.{set_in}
 use Rattle.graph_view.proofs.FoundLemmas.{has_behind, not_behind, last_behind}
-use Rattle.graph_view.proofs.look_up.found.Goals as goal
+use Rattle.graph_view.proofs.look_up.has.Goals as goal
 
 deep : (s : Sub) → HasDepth (sub_depth s) (sub_set s)
 deep s = known_deep s.tables.now s.place s.known

@@ -5,7 +5,9 @@ use Rattle.std.specs.FinSet as set
 use Rattle.hypertrie_model.specs.IdSets.{IdSet}
 use Rattle.rdf_model.specs.Terms.{Text}
 use Rattle.rdf_model.specs.Graph.{Graph}
-use Rattle.ntriples_model.specs.Proper.{IsScope}
+use Rattle.ntriples_model.specs.Proper.{IsScope, IsProperTriple}
+use Rattle.rdf_term.specs.Seen.{lent_triples}
+use Rattle.rdf_term.specs.declared.term.TripleRef.{TripleRef}
 use Rattle.text_lines.specs.Lines.{Line}
 use Rattle.script_model.specs.Commands as script
 use Rattle.run_model.specs.Answers as answers
@@ -28,6 +30,17 @@ lent_line (Some line) = Some line.now
 pub record MayBeScope (scope : Text) : Type 0 where
   pub short : length scope ≤ 64
   pub letters : IsScope scope
+
+-- what was read of a line: none where it is no line of N-Triples
+abbrev pub lent_saying : Option (Option TripleRef) → Saying
+lent_saying None = None
+lent_saying (Some read) = Some (lent_triples read)
+
+-- a triple that is said is a proper one
+abbrev pub IsProperSaying : Saying → Type 0
+IsProperSaying None = Unit {0}
+IsProperSaying (Some None) = Unit {0}
+IsProperSaying (Some (Some triple)) = IsProperTriple triple
 
 -- What lines change in a graph that may have so many triples, and the answer: all of them, or nothing with a refusal.
 pub data ChangesBy (most : ℕ) (change : script.Change) (said : List Saying) (G : Graph) : Graph → answers.Answer → Type 0 where

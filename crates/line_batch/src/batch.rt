@@ -1,8 +1,9 @@
 //! What lines say: triples that are staged or marked in the store, until the last of them has come.
-ghost use Rattle.std.specs.Prelude.{◌≡◌, ◌≤◌, ℕ, List, length, Some, IfSome};
+ghost use Rattle.std.specs.Prelude.{◌≡◌, ◌≤◌, ℕ, List, length, IfSome};
 ghost use Rattle.ntriples_model.specs.Proper.{IsProperTriple};
 ghost use Rattle.rdf_term.specs.Seen.{lent_triple};
-ghost use Rattle.run_model.specs.Sayings.{Saying, says};
+ghost use Rattle.run_model.specs.Sayings as model;
+ghost use Rattle.run_model.specs.Sayings.{says};
 ghost use Rattle.run_model.specs.Loads.{saying_of};
 ghost use Rattle.script_model.specs.Commands as script;
 ghost use Rattle.graph_store.specs.State.{State, IsSettled};
@@ -10,7 +11,7 @@ ghost use Rattle.graph_store.specs.Staging.{Fits, before, AreMarked};
 ghost use Rattle.line_batch.specs.Sound.{IsSound};
 ghost use Rattle.line_batch.specs.Seen.{answer_of};
 ghost use Rattle.line_batch.specs.Batches.{lent_line, MayBeScope, IsBatch, IsNone, IsReady, AreStaged, AreToGo, ChangesStore};
-ghost use Rattle.line_batch.specs.Batches.{StagesOneMore, MarksOneMore, HasOneMore};
+ghost use Rattle.line_batch.specs.Batches.{StagesOneMore, MarksOneMore, HasOneMore, lent_saying, IsProperSaying};
 ghost use Rattle.line_batch.specs.declared.batch.Batch.TheVariants.{Inserts, Deletes};
 
 use crate::answer::Answer;
@@ -22,6 +23,9 @@ use rdf_term::{Scratch, TripleRef};
 use std::alloc::Global;
 use std::sync::ledger::Ledger;
 use trie_depth::Mix;
+
+// What a line says: none where it is no line of N-Triples, else a triple or nothing.
+type Saying<'a> = Option<Option<TripleRef<'a>>>;
 
 /// What lines say so far. It must be spent, by `carry_out` or `abandon`.
 pub enum Batch {
@@ -54,33 +58,31 @@ fn stage_triple<M: Mix>(
     }
 }
 
-// Stages what a line says, or says why it can't be put in.
+// Stages what is said, or says why it can't be put in.
 fn stage<M: Mix>(
     store: &mut Store<M>,
     staged: &mut Staged,
-    line: &[u8],
-    scope: &str,
+    saying: Saying<'_>,
     number: u64,
-    scratch: &mut Scratch,
 ) -> Option<Refusal>
-    requires short { length line.now ≤ 1048576 }
-    requires scope { MayBeScope scope.now }
+    requires proper { IsProperSaying (lent_saying saying) }
     requires fits { Fits store.old staged.old }
     ensures fits { Fits store.new staged.new }
     ensures before { before store.new staged.new ≡ before store.old staged.old }
-    ensures line { StagesOneMore number (says scope.now (Some line.now))
-        store.old staged.old store.new staged.new result }
+    ensures line { StagesOneMore number (lent_saying saying.entry) store.old staged.old store.new staged.new result }
 {
-    match read_line(line, scope, scratch) {
-        Ok(None) => {
+    let Some(said) = saying else {
+        return Some(Refusal::Line(number));
+    };
+    match said {
+        None => {
             if store.is_over() {
                 Some(Refusal::Full(number))
             } else {
                 None
             }
         }
-        Ok(Some(triple)) => stage_triple(store, staged, triple, number),
-        Err(_) => Some(Refusal::Line(number)),
+        Some(triple) => stage_triple(store, staged, triple, number),
     }
 }
 
@@ -100,41 +102,38 @@ fn mark_triple<M: Mix>(
     }
 }
 
-// Marks what a line says, or says why it can't be taken out.
+// Marks what is said, or says why it can't be taken out.
 fn mark<M: Mix>(
     store: &Store<M>,
     taken: &mut Taken,
-    line: &[u8],
-    scope: &str,
+    saying: Saying<'_>,
     number: u64,
-    scratch: &mut Scratch,
 ) -> Option<Refusal>
-    requires short { length line.now ≤ 1048576 }
-    requires scope { MayBeScope scope.now }
     ensures there { AreMarked store.now taken.old → AreMarked store.now taken.new }
-    ensures line { MarksOneMore number (says scope.now (Some line.now)) store.now taken.old taken.new result }
+    ensures line { MarksOneMore number (lent_saying saying.entry) store.now taken.old taken.new result }
 {
-    match read_line(line, scope, scratch) {
-        Ok(None) => None,
-        Ok(Some(triple)) => mark_triple(store, taken, triple),
-        Err(_) => Some(Refusal::Line(number)),
+    let Some(said) = saying else {
+        return Some(Refusal::Line(number));
+    };
+    match said {
+        None => None,
+        Some(triple) => mark_triple(store, taken, triple),
     }
 }
 
-// The staged triples with one more, of this number.
-fn insert_triple<M: Mix>(
+// The staged triples with what is said in one more line, of this number.
+fn insert<M: Mix>(
     store: &mut Store<M>,
     mut staged: Staged,
-    triple: TripleRef<'_>,
+    saying: Saying<'_>,
     number: u64,
 ) -> Batch
+    requires proper { IsProperSaying (lent_saying saying) }
     requires fits { Fits store.old staged }
-    requires proper { IsProperTriple (lent_triple triple) }
     ensures ready { IsReady store.new result }
-    ensures more { HasOneMore number (saying_of (lent_triple triple.entry))
-        store.old (Inserts staged) store.new result }
+    ensures more { HasOneMore number (lent_saying saying.entry) store.old (Inserts staged) store.new result }
 {
-    match stage_triple(store, &mut staged, triple, number) {
+    match stage(store, &mut staged, saying, number) {
         None => Batch::Inserts(staged),
         Some(cause) => {
             store.abandon(staged);
@@ -143,72 +142,29 @@ fn insert_triple<M: Mix>(
     }
 }
 
-// The staged triples with those of one more line, of this number.
-fn insert_line<M: Mix>(
-    store: &mut Store<M>,
-    mut staged: Staged,
-    line: Option<&[u8]>,
-    scope: &str,
-    number: u64,
-    scratch: &mut Scratch,
-) -> Batch
-    requires short { IfSome line (λ l. length l.now ≤ 1048576) }
-    requires scope { MayBeScope scope.now }
-    requires fits { Fits store.old staged }
-    ensures ready { IsReady store.new result }
-    ensures more { HasOneMore number (says scope.now (lent_line line.entry))
-        store.old (Inserts staged) store.new result }
-{
-    let Some(line) = line else {
-        store.abandon(staged);
-        return Batch::Refused(Refusal::Line(number));
-    };
-    match stage(store, &mut staged, line, scope, number, scratch) {
-        None => Batch::Inserts(staged),
-        Some(why) => {
-            store.abandon(staged);
-            Batch::Refused(why)
-        }
-    }
-}
-
-// The marked triples with one more.
-fn delete_triple<M: Mix>(store: &Store<M>, mut taken: Taken, triple: TripleRef<'_>) -> Batch
+// The marked triples with what is said in one more line, of this number.
+fn delete<M: Mix>(store: &Store<M>, mut taken: Taken, saying: Saying<'_>, number: u64) -> Batch
     requires settled { IsSettled store.now }
     requires there { AreMarked store.now taken }
     ensures ready { IsReady store.now result }
-    ensures more { (number : ℕ)
-        → HasOneMore number (saying_of (lent_triple triple.entry)) store.now (Deletes taken) store.now result }
+    ensures more { HasOneMore number (lent_saying saying.entry) store.now (Deletes taken) store.now result }
 {
-    match mark_triple(store, &mut taken, triple) {
+    match mark(store, &mut taken, saying, number) {
         None => Batch::Deletes(taken),
         Some(cause) => Batch::Refused(cause),
     }
 }
 
-// The marked triples with those of one more line, of this number.
-fn delete_line<M: Mix>(
-    store: &Store<M>,
-    mut taken: Taken,
-    line: Option<&[u8]>,
-    scope: &str,
-    number: u64,
-    scratch: &mut Scratch,
-) -> Batch
+// What a line says that is read under the scope; one that is too long is no line.
+fn said<'a>(line: Option<&[u8]>, scope: &str, scratch: &'a mut Scratch) -> Saying<'a>
     requires short { IfSome line (λ l. length l.now ≤ 1048576) }
     requires scope { MayBeScope scope.now }
-    requires settled { IsSettled store.now }
-    requires there { AreMarked store.now taken }
-    ensures ready { IsReady store.now result }
-    ensures more { HasOneMore number (says scope.now (lent_line line.entry))
-        store.now (Deletes taken) store.now result }
+    ensures said { lent_saying result ≡ says scope.now (lent_line line.entry) }
+    ensures proper { IsProperSaying (lent_saying result) }
 {
-    let Some(line) = line else {
-        return Batch::Refused(Refusal::Line(number));
-    };
-    match mark(store, &mut taken, line, scope, number, scratch) {
-        None => Batch::Deletes(taken),
-        Some(why) => Batch::Refused(why),
+    match read_line(line?, scope, scratch) {
+        Ok(triple) => Some(triple),
+        Err(_) => None,
     }
 }
 
@@ -248,11 +204,7 @@ impl Batch {
         ensures ready { IsReady store.new result }
         ensures more { HasOneMore number (says scope.now (lent_line line.entry)) store.old self store.new result }
     {
-        match self {
-            Batch::Inserts(staged) => insert_line(store, staged, line, scope, number, scratch),
-            Batch::Deletes(taken) => delete_line(store, taken, line, scope, number, scratch),
-            Batch::Refused(cause) => Batch::Refused(cause),
-        }
+        self.with_saying(store, said(line, scope, scratch), number)
     }
 
     /// With one more triple, as a line of this number would say it.
@@ -267,9 +219,19 @@ impl Batch {
         ensures ready { IsReady store.new result }
         ensures more { HasOneMore number (saying_of (lent_triple triple.entry)) store.old self store.new result }
     {
+        self.with_saying(store, Some(Some(triple)), number)
+    }
+
+    // With what is said in one more line, of this number.
+    fn with_saying<M: Mix>(self, store: &mut Store<M>, saying: Saying<'_>, number: u64) -> Batch
+        requires proper { IsProperSaying (lent_saying saying) }
+        requires ready { IsReady store.old self }
+        ensures ready { IsReady store.new result }
+        ensures more { HasOneMore number (lent_saying saying.entry) store.old self store.new result }
+    {
         match self {
-            Batch::Inserts(staged) => insert_triple(store, staged, triple, number),
-            Batch::Deletes(taken) => delete_triple(store, taken, triple),
+            Batch::Inserts(staged) => insert(store, staged, saying, number),
+            Batch::Deletes(taken) => delete(store, taken, saying, number),
             Batch::Refused(cause) => Batch::Refused(cause),
         }
     }
@@ -282,7 +244,7 @@ impl Batch {
         counts: &mut Counts<W, V, U>,
     ) -> Answer
         requires ready { IsReady store.old self }
-        ensures { (s : State) (change : script.Change) (said : List Saying) → IsSound M.mixed s → IsBatch s change said store.old self
+        ensures { (s : State) (change : script.Change) (said : List model.Saying) → IsSound M.mixed s → IsBatch s change said store.old self
             → ChangesStore M.mixed s change said store.new (answer_of result) }
     {
         match self {
@@ -295,7 +257,7 @@ impl Batch {
     /// Leaves the store as it was before the first line.
     pub fn abandon<M: Mix>(self, store: &mut Store<M>)
         requires ready { IsReady store.old self }
-        ensures { (s : State) (change : script.Change) (said : List Saying) → IsBatch s change said store.old self → store.new ≡ s }
+        ensures { (s : State) (change : script.Change) (said : List model.Saying) → IsBatch s change said store.old self → store.new ≡ s }
     {
         match self {
             Batch::Inserts(staged) => store.abandon(staged),
@@ -312,7 +274,7 @@ fn put_in<M: Mix, W: Ledger, V: Ledger, U: Ledger>(
     counts: &mut Counts<W, V, U>,
 ) -> Answer
     requires fits { Fits store.old staged }
-    ensures { (s : State) (said : List Saying) → IsSound M.mixed s → AreStaged s said store.old staged
+    ensures { (s : State) (said : List model.Saying) → IsSound M.mixed s → AreStaged s said store.old staged
         → ChangesStore M.mixed s script.Inserts said store.new (answer_of result) }
 {
     let inserted = store.insert(alloc, staged, &mut counts.interns, &mut counts.retains);
@@ -332,7 +294,7 @@ fn take_out<M: Mix, W: Ledger, V: Ledger, U: Ledger>(
     counts: &mut Counts<W, V, U>,
 ) -> Answer
     requires ready { IsReady store.old (Deletes taken) }
-    ensures { (said : List Saying) → IsSound M.mixed store.old → AreToGo store.old said taken
+    ensures { (said : List model.Saying) → IsSound M.mixed store.old → AreToGo store.old said taken
         → ChangesStore M.mixed store.old script.Deletes said store.new (answer_of result) }
 {
     let deleted = store.delete(alloc, taken, &mut counts.interns, &mut counts.retains);

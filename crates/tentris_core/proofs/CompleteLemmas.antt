@@ -56,7 +56,7 @@ takes cfg W _ _ _ _ free (steps.file_failed change scope name place h) = unread 
 takes cfg W c _ _ _ free (steps.no_memory _ other) = lacked refl
 
 -- a read that is among those that failed raised its count
-raised : (read : FailedRead) (front behind : List FailedRead) (before now : FaultCounts) → AreCounted before now (front ++ read ∷ behind) → Rose (before read.name read.place) (now read.name read.place)
+pub raised : (read : FailedRead) (front behind : List FailedRead) (before now : FaultCounts) → AreCounted before now (front ++ read ∷ behind) → Rose (before read.name read.place) (now read.name read.place)
 raised read front behind before now h =
     let is : is_read read.name read.place read ≡ true = both in
     let more : times_failed read.name read.place (front ++ read ∷ behind) ≡ times_failed read.name read.place front + times_failed read.name read.place (read ∷ behind) = sum_by-append (λ r. cond (is_read read.name read.place r) 1 0) front (read ∷ behind) in

@@ -7,5 +7,6 @@ pub mod Places
 pub mod Runs
 pub mod Called
 pub mod Complete
+pub mod Sorted
 pub mod Codes
 pub mod Endings

@@ -8,5 +8,5 @@ mod question;
 mod running;
 mod tools;
 
-pub use laws::law_of_complete_runs;
+pub use laws::{law_of_complete_runs, law_of_sorted_calls};
 pub use running::{Status, run};

@@ -1,4 +1,6 @@
 pub mod Firsts
 pub mod Lexed
+pub mod Limits
 pub mod Meant
 pub mod Queries
+pub mod Signed

@@ -1,10 +1,15 @@
 -- How the productions and the functions from the front agree.
-use Rattle.std.specs.Prelude.{◌≡◌, ◌↔◌, ℕ, List, Some}
+use Rattle.std.specs.Prelude.{◌≡◌, ◌↔◌, ℕ, List, ◌++◌, map, Option, Some}
+use Rattle.std.specs.List.{AllByRecursion}
+use Rattle.query_tokens.specs.Forms.{HasForm}
 use Rattle.query_grammar.specs.Lexemes.{Lexeme, lexed}
-use Rattle.query_grammar.specs.Meaning.{Query, IsQuery, query_of}
+use Rattle.query_grammar.specs.Meaning.{Query, IsQuery, query_of, number_behind, or_zero}
+use Rattle.query_grammar.specs.Outline.{limits}
+use Rattle.query_grammar.specs.Signs.{Sign, Limit, Offset, number_of, sign_of}
 use Rattle.query_grammar.specs.Texts.{unescaped, iri_text, string_text}
 use Rattle.query_forms.specs.Insides.{Means, MeansIri, MeansText}
 use Rattle.query_forms.specs.Lexing.{IsLexed}
+use Rattle.query_forms.specs.Tails.{IsTail}
 use Rattle.query_forms.specs.Whole.{IsQueryText}
 
 -- A text has exactly the tokens that are found in it.
@@ -16,6 +21,16 @@ pub record MeanAsProductions : Type 0 where
   pub insides : (cs meant : List ℕ) → Means cs meant ↔ (unescaped cs ≡ Some meant)
   pub iris : (token iri : List ℕ) → MeansIri token iri ↔ (iri_text token ≡ Some iri)
   pub texts : (token text : List ℕ) → MeansText token text ↔ (string_text token ≡ Some text)
+
+-- none of the tokens has the sign
+abbrev pub Lacks : Sign → List Lexeme → Type 0
+Lacks s ls = AllByRecursion (λ l. sign_of l ≡ s → ⊥) ls
+
+-- The limit and the offset are those that are found, where what stands before them has none.
+abbrev pub TailsAsProductions : Type 0
+TailsAsProductions = (before tail : List Lexeme) (limit : Option ℕ) (offset : ℕ) → Lacks Limit before → Lacks Offset before
+    → IsTail tail limit offset ↔ (HasForm limits (map number_of (map sign_of tail))
+    × (limit ≡ number_behind Limit (before ++ tail)) × (offset ≡ or_zero (number_behind Offset (before ++ tail))))
 
 -- A text is exactly the query that is found.
 abbrev pub QueriesAsProductions : Type 0

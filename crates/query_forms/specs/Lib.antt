@@ -1,4 +1,5 @@
 pub mod Insides
 pub mod Laws
 pub mod Lexing
+pub mod Tails
 pub mod Whole

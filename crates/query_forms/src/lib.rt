@@ -3,7 +3,7 @@
 //! find the same from the front; those below say that the two agree.
 #![tactic(auto)]
 
-ghost use Rattle.query_forms.specs.Laws.{LexesAsProductions, MeanAsProductions, QueriesAsProductions};
+ghost use Rattle.query_forms.specs.Laws.{LexesAsProductions, MeanAsProductions, TailsAsProductions, QueriesAsProductions};
 
 /// The tokens that are found in a text are those of the productions.
 pub fn tokens_by_productions()
@@ -13,6 +13,11 @@ pub fn tokens_by_productions()
 /// What is found of IRIs and strings is what the productions say.
 pub fn texts_by_productions()
     ensures { MeanAsProductions }
+{}
+
+/// The limit and the offset that are found are those of the productions.
+pub fn limits_by_productions()
+    ensures { TailsAsProductions }
 {}
 
 /// The query that is found is the one of the productions, and none is found where they have none.

@@ -2,5 +2,6 @@ pub mod Firsts
 pub mod Lexed
 pub mod Limits
 pub mod Meant
+pub mod Prefixed
 pub mod Queries
 pub mod Signed

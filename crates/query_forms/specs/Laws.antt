@@ -2,13 +2,15 @@
 use Rattle.std.specs.Prelude.{◌≡◌, ◌↔◌, ℕ, List, ◌++◌, map, Option, Some}
 use Rattle.std.specs.List.{AllByRecursion}
 use Rattle.query_tokens.specs.Forms.{HasForm}
-use Rattle.query_grammar.specs.Lexemes.{Lexeme, lexed}
+use Rattle.query_tokens.specs.Tokens.{Kind, IsToken}
+use Rattle.query_grammar.specs.Lexemes.{Lexeme, lexeme, lexed}
 use Rattle.query_grammar.specs.Meaning.{Query, IsQuery, query_of, number_behind, or_zero}
 use Rattle.query_grammar.specs.Outline.{limits}
-use Rattle.query_grammar.specs.Signs.{Sign, Limit, Offset, number_of, sign_of}
-use Rattle.query_grammar.specs.Texts.{unescaped, iri_text, string_text}
+use Rattle.query_grammar.specs.Signs.{Sign, Prefix, Limit, Offset, number_of, sign_of}
+use Rattle.query_grammar.specs.Texts.{unescaped, iri_text, string_text, declared, name_iri}
 use Rattle.query_forms.specs.Insides.{Means, MeansIri, MeansText}
 use Rattle.query_forms.specs.Lexing.{IsLexed}
+use Rattle.query_forms.specs.Prologues.{Declaration, IsPrologue, StandsFor, MeansName}
 use Rattle.query_forms.specs.Tails.{IsTail}
 use Rattle.query_forms.specs.Whole.{IsQueryText}
 
@@ -31,6 +33,14 @@ abbrev pub TailsAsProductions : Type 0
 TailsAsProductions = (before tail : List Lexeme) (limit : Option ℕ) (offset : ℕ) → Lacks Limit before → Lacks Offset before
     → IsTail tail limit offset ↔ (HasForm limits (map number_of (map sign_of tail))
     × (limit ≡ number_behind Limit (before ++ tail)) × (offset ≡ or_zero (number_behind Offset (before ++ tail))))
+
+-- Prefixes and names stand for exactly what is found, where all declarations come first.
+pub record PrefixesAsProductions : Type 0 where
+  pub prefixes : (prologue rest : List Lexeme) (ds : List Declaration) → IsPrologue prologue ds → Lacks Prefix rest
+      → (prefix iri : List ℕ) → StandsFor ds prefix iri ↔ (declared prefix (prologue ++ rest) ≡ Some iri)
+  pub names : (prologue rest : List Lexeme) (ds : List Declaration) → IsPrologue prologue ds → Lacks Prefix rest
+      → (kind : Kind) (token : List ℕ) → IsToken kind token
+      → (iri : List ℕ) → MeansName ds (lexeme kind token) iri ↔ (name_iri (prologue ++ rest) (lexeme kind token) ≡ Some iri)
 
 -- A text is exactly the query that is found.
 abbrev pub QueriesAsProductions : Type 0

@@ -1,5 +1,6 @@
 pub mod Insides
 pub mod Laws
 pub mod Lexing
+pub mod Prologues
 pub mod Tails
 pub mod Whole

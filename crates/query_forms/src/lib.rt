@@ -3,7 +3,7 @@
 //! find the same from the front; those below say that the two agree.
 #![tactic(auto)]
 
-ghost use Rattle.query_forms.specs.Laws.{LexesAsProductions, MeanAsProductions, TailsAsProductions, QueriesAsProductions};
+ghost use Rattle.query_forms.specs.Laws.{LexesAsProductions, MeanAsProductions, TailsAsProductions, PrefixesAsProductions, QueriesAsProductions};
 
 /// The tokens that are found in a text are those of the productions.
 pub fn tokens_by_productions()
@@ -18,6 +18,11 @@ pub fn texts_by_productions()
 /// The limit and the offset that are found are those of the productions.
 pub fn limits_by_productions()
     ensures { TailsAsProductions }
+{}
+
+/// The IRIs that are found for prefixes and for names are those of the productions.
+pub fn names_by_productions()
+    ensures { PrefixesAsProductions }
 {}
 
 /// The query that is found is the one of the productions, and none is found where they have none.

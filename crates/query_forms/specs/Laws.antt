@@ -1,15 +1,16 @@
 -- How the productions and the functions from the front agree.
-use Rattle.std.specs.Prelude.{◌≡◌, ◌↔◌, ℕ, List, ◌++◌, map, Option, Some}
+use Rattle.std.specs.Prelude.{◌≡◌, ◌↔◌, ℕ, List, [], ◌++◌, map, Option, Some}
 use Rattle.std.specs.List.{AllByRecursion}
 use Rattle.query_tokens.specs.Forms.{HasForm}
 use Rattle.query_tokens.specs.Tokens.{Kind, IsToken}
 use Rattle.query_grammar.specs.Lexemes.{Lexeme, lexeme, lexed}
-use Rattle.query_grammar.specs.Meaning.{Query, IsQuery, query_of, number_behind, or_zero}
+use Rattle.query_grammar.specs.Meaning.{Name, Query, IsQuery, query_of, names_from, variables_from, number_behind, or_zero}
 use Rattle.query_grammar.specs.Outline.{limits}
 use Rattle.query_grammar.specs.Signs.{Sign, Prefix, Limit, Offset, number_of, sign_of}
 use Rattle.query_grammar.specs.Texts.{unescaped, iri_text, string_text, declared, name_iri}
 use Rattle.query_forms.specs.Insides.{Means, MeansIri, MeansText}
 use Rattle.query_forms.specs.Lexing.{IsLexed}
+use Rattle.query_forms.specs.Naming.{IsName, IsVariable, AreNames}
 use Rattle.query_forms.specs.Prologues.{Declaration, IsPrologue, StandsFor, MeansName}
 use Rattle.query_forms.specs.Tails.{IsTail}
 use Rattle.query_forms.specs.Whole.{IsQueryText}
@@ -41,6 +42,12 @@ pub record PrefixesAsProductions : Type 0 where
   pub names : (prologue rest : List Lexeme) (ds : List Declaration) → IsPrologue prologue ds → Lacks Prefix rest
       → (kind : Kind) (token : List ℕ) → IsToken kind token
       → (iri : List ℕ) → MeansName ds (lexeme kind token) iri ↔ (name_iri (prologue ++ rest) (lexeme kind token) ≡ Some iri)
+
+-- The names and the variables of tokens are those that are found, in that order.
+pub record NamesAsProductions : Type 0 where
+  pub names : (i : ℕ) (ls : List Lexeme) (names : List Name) → AreNames IsName i ls names ↔ (names ≡ names_from [] i ls)
+  pub variables : (i : ℕ) (ls : List Lexeme) (names : List Name)
+      → AreNames IsVariable i ls names ↔ (names ≡ variables_from (names_from [] i ls))
 
 -- A text is exactly the query that is found.
 abbrev pub QueriesAsProductions : Type 0

@@ -3,7 +3,7 @@
 //! find the same from the front; those below say that the two agree.
 #![tactic(auto)]
 
-ghost use Rattle.query_forms.specs.Laws.{LexesAsProductions, MeanAsProductions, TailsAsProductions, PrefixesAsProductions, QueriesAsProductions};
+ghost use Rattle.query_forms.specs.Laws.{LexesAsProductions, MeanAsProductions, TailsAsProductions, PrefixesAsProductions, NamesAsProductions, QueriesAsProductions};
 
 /// The tokens that are found in a text are those of the productions.
 pub fn tokens_by_productions()
@@ -21,8 +21,13 @@ pub fn limits_by_productions()
 {}
 
 /// The IRIs that are found for prefixes and for names are those of the productions.
-pub fn names_by_productions()
+pub fn prefixes_by_productions()
     ensures { PrefixesAsProductions }
+{}
+
+/// The variables and the blank nodes that are found, and their order, are those of the productions.
+pub fn names_by_productions()
+    ensures { NamesAsProductions }
 {}
 
 /// The query that is found is the one of the productions, and none is found where they have none.

@@ -1,13 +1,13 @@
 -- The limit and the offset that are found are those of the productions.
-use Rattle.std.proofs.Common.{◌≡◌, ◌∙◌, ℕ, ◌⊎◌, List, [], ◌∷◌, ◌++◌, refl, sym, ap, subst, inl, inr, append-nil, Option, Some, None}
-use Rattle.query_tokens.specs.Forms.{Form, ◌▸◌, ◌∣◌, maybe, HasForm}
+use Rattle.std.proofs.Common.{◌≡◌, ◌∙◌, ℕ, List, [], ◌∷◌, ◌++◌, refl, sym, ap, subst, inl, inr, append-nil, Option, Some, None}
+use Rattle.query_tokens.specs.Forms.{◌▸◌, maybe}
 use Rattle.query_grammar.specs.Lexemes.{Lexeme}
 use Rattle.query_grammar.specs.Meaning.{number_behind, or_zero, value_of}
 use Rattle.query_grammar.specs.Outline.{sign, limits}
-use Rattle.query_grammar.specs.Signs.{Sign, Limit, Offset, Integer, number_of, sign_of}
+use Rattle.query_grammar.specs.Signs.{Sign, Limit, Offset, Integer}
 use Rattle.query_forms.specs.Laws.{Lacks, TailsAsProductions}
 use Rattle.query_forms.specs.Tails.{IsClause, clause, IsTail, nothing, limit, offset, limit_offset, offset_limit}
-use Rattle.query_forms.proofs.Signed.{same_sign, has_none, number_past, number_none, number_here, numbers, no_numbers, Fits, parted, together, grouped, regrouped, one_token, fits_one}
+use Rattle.query_forms.proofs.Signed.{number_past, number_none, number_here, numbers, no_numbers, Fits, parted, together, grouped, regrouped, one_token, fits_one}
 
 -- What a clause says
 

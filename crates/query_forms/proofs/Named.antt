@@ -1,7 +1,7 @@
 -- The names that are found are those of the productions.
-use Rattle.std.proofs.Common.{◌≡◌, ◌∙◌, ◌+◌, ◌<◌, ℕ, zero, suc, Bool, true, false, cond, not, ◌||◌, List, [], ◌∷◌, ◌++◌, length, refl, sym, ap, subst, arith, append_assoc, append-nil, Option, Some, None}
+use Rattle.std.proofs.Common.{◌≡◌, ◌∙◌, ◌+◌, ℕ, zero, suc, Bool, true, false, cond, not, ◌||◌, List, [], ◌∷◌, ◌++◌, refl, sym, ap, subst, arith, append_assoc, append-nil, Option, Some, None}
 use Rattle.std.specs.Prelude.{◌==◌, Contains, slice_get, fold}
-use Rattle.std.specs.List.{list_any, position_or_len, cons_option}
+use Rattle.std.specs.List.{list_any, cons_option}
 use Rattle.std.specs.Str.{bytes_eq}
 use Rattle.std.proofs.lemmas.Bool.Decides.{nat_tests}
 use Rattle.std.proofs.lemmas.List.Sums.{fold-append}
@@ -55,7 +55,7 @@ contains_among (m ∷ names) n (suc k, low, is) = by (same_name n m) (contains_a
   by true more = refl
   by false more = more
 
-not_among : (names : List Name) (n : Name) → (Contains names n → ⊥) → among names n ≡ false
+pub not_among : (names : List Name) (n : Name) → (Contains names n → ⊥) → among names n ≡ false
 not_among names n h = by (among names n) refl where
   by : (b : Bool) → among names n ≡ b → among names n ≡ false
   by true e = absurd (h (among_contains names n e))
@@ -147,7 +147,7 @@ name_complete _ _ _ (variable i l s) = ap (λ (t : Sign). name_by t l.text i) s
 name_complete _ _ _ (label i l s) = ap (λ (t : Sign). name_by t l.text i) s
 name_complete _ _ _ (bracket i l s) = ap (λ (t : Sign). name_by t l.text i) s
 
-abbrev variable_by : Sign → List ℕ → Option Name
+abbrev pub variable_by : Sign → List ℕ → Option Name
 variable_by Variable text = Some (VariableName (behind_first 1 text))
 variable_by _ text = None
 

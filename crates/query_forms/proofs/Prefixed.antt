@@ -1,10 +1,10 @@
 -- The IRIs that are found for prefixes and for names are those of the productions.
-use Rattle.std.proofs.Common.{◌≡◌, ◌∙◌, ◌+◌, ◌≤◌, ℕ, zero, suc, Bool, true, false, cond, not, List, [], ◌∷◌, ◌++◌, length, take, drop, refl, sym, ap, subst, arith, append_assoc, append-nil, Option, Some, None}
+use Rattle.std.proofs.Common.{◌≡◌, ◌∙◌, ◌+◌, ℕ, Bool, true, false, cond, not, List, [], ◌∷◌, ◌++◌, length, take, drop, refl, sym, ap, subst, arith, append_assoc, Option, Some, None}
 use Rattle.std.specs.Prelude.{◌==◌, map, slice_index, encode_utf8_all}
 use Rattle.std.specs.Char.{to_ascii_lowercase}
-use Rattle.std.specs.List.{AllByRecursion, filter, position_or_len}
+use Rattle.std.specs.List.{AllByRecursion, position_or_len}
 use Rattle.std.specs.Option.{option_map}
-use Rattle.std.specs.Str.{chars, bytes_eq}
+use Rattle.std.specs.Str.{bytes_eq}
 use Rattle.std.proofs.lemmas.Bool.Decides.{nat_tests}
 use Rattle.std.proofs.lemmas.Slice.Eq.{bytes_eq-Decides}
 use Rattle.std.proofs.lemmas.Str.{encodes-append}
@@ -14,8 +14,7 @@ use Rattle.query_tokens.specs.Tokens as kind
 use Rattle.query_tokens.specs.Tokens.{Kind, IsToken}
 use Rattle.query_grammar.specs.Lexemes.{Lexeme, lexeme}
 use Rattle.query_grammar.specs.Signs.{Sign, Prefix, Select, Distinct, Reduced, Where, Limit, Offset, True, False, TypeOf, OtherWord, Iri, PnameNs, PnameLn, OpenBrace, CloseBrace, Open, Close, Stop, Comma, Semicolon, Star, Carets, word_sign, mark_sign, sign_of}
-use Rattle.query_grammar.specs.Texts.{iri_text, is_sign, or_before, declared_here, declared, prefix_length, local_text, name_iri_by, name_iri}
-use Rattle.query_forms.specs.Insides.{MeansIri}
+use Rattle.query_grammar.specs.Texts.{iri_text, is_sign, or_before, declared_here, declared, prefix_length, name_iri_by, name_iri}
 use Rattle.query_forms.specs.Laws.{Lacks, PrefixesAsProductions}
 use Rattle.query_forms.specs.Prologues.{Declaration, declaration, IsPrologue, nothing, next, StandsFor, without_backslashes, MeansName, iri, prefix, local}
 use Rattle.query_forms.proofs.Meant.{mean_as_productions}

@@ -1,9 +1,9 @@
 -- Where a sign stands among tokens, and what a form of signs says of tokens.
-use Rattle.std.proofs.Common.{◌≡◌, ◌∙◌, ◌+◌, ℕ, Bool, true, false, cond, not, ◌&&◌, ◌||◌, ◌⊎◌, List, [], ◌∷◌, ◌++◌, length, map, refl, sym, ap, subst, append_assoc, inl, inr, arith, Option, Some, None}
-use Rattle.std.specs.Prelude.{◌==◌, slice_index_or}
-use Rattle.std.specs.List.{AllByRecursion, list_any, position_or_len}
+use Rattle.std.proofs.Common.{◌≡◌, ◌∙◌, ◌+◌, ℕ, Bool, true, false, cond, not, ◌||◌, List, [], ◌∷◌, ◌++◌, length, map, refl, sym, ap, subst, append_assoc, arith, Some, None}
+use Rattle.std.specs.Prelude.{◌==◌}
+use Rattle.std.specs.List.{AllByRecursion}
 use Rattle.std.proofs.lemmas.Bool.Decides.{nat_tests}
-use Rattle.std.proofs.lemmas.List.{map-append, get_or-append-add}
+use Rattle.std.proofs.lemmas.List.{get_or-append-add}
 use Rattle.ntriples_model.specs.Characters.{in_ranges}
 use Rattle.query_tokens.specs.Forms.{Form, ◌▸◌, many, HasForm, IsRepeated, none, next}
 use Rattle.query_grammar.specs.Lexemes.{Lexeme}
@@ -60,11 +60,12 @@ pub has_past : (s : Sign) (ls ks : List Lexeme) → Lacks s ls → has_sign s (l
 has_past s [] ks h = refl
 has_past s (l ∷ ls) ks h = ap (λ b. b || has_sign s (ls ++ ks)) (is_not s (sign_of l) h.0) ∙ has_past s ls ks h.1
 
+pub has_before : (s : Sign) (ls ks : List Lexeme) → Lacks s ks → has_sign s (ls ++ ks) ≡ has_sign s ls
+has_before s [] ks h = has_none s ks h
+has_before s (l ∷ ls) ks h = ap (λ b. is_sign s (sign_of l) || b) (has_before s ls ks h)
+
 pub has_here : (s : Sign) (l : Lexeme) (ks : List Lexeme) → sign_of l ≡ s → has_sign s (l ∷ ks) ≡ true
 has_here s l ks e = ap (λ b. b || has_sign s ks) (is_it s (sign_of l) e)
-
-one_more : (m n : ℕ) → 1 + (m + n) ≡ (1 + m) + n
-one_more m n = omega arith
 
 pub place_past : (s : Sign) (ls ks : List Lexeme) → Lacks s ls → place_of s (ls ++ ks) ≡ length ls + place_of s ks
 place_past s [] ks h = omega arith
@@ -188,3 +189,33 @@ one_token s (l ∷ k ∷ ls) (c, e, r) = absurd (let f : ⊥ = cc in f)
 
 pub fits_one : (s : Sign) (l : Lexeme) → sign_of l ≡ s → Fits (sign s) (l ∷ [])
 fits_one s l e = (number_of (sign_of l), refl, ap (λ (t : Sign). in_ranges ((number_of s, number_of s) ∷ []) (number_of t)) e ∙ within_itself (number_of s))
+
+-- tokens of a form, one after the other
+pub data Each (f : Form) : List Lexeme → Type 0 where
+  no_more : Each f []
+  one_more : (ls ks : List Lexeme) → Fits f ls → Each f ks → Each f (ls ++ ks)
+
+of_repeated : (f : Form) (ns : List ℕ) (ls : List Lexeme) → IsRepeated (HasForm f) ns → numbers ls ≡ ns → Each f ls
+of_repeated f _ ls none e = subst (Each f) (sym (no_numbers ls e)) no_more
+of_repeated f _ ls (next first rest h more) e =
+    let c = cut ls first rest e in
+    subst (Each f) (sym c.are) (one_more c.first c.second (subst (HasForm f) (sym c.is_front) h) (of_repeated f rest c.second more c.is_back))
+
+pub each_of : (f : Form) (ls : List Lexeme) → Fits (many f) ls → Each f ls
+each_of f ls h = of_repeated f (numbers ls) ls h refl
+
+pub of_each : (f : Form) (ls : List Lexeme) → Each f ls → Fits (many f) ls
+of_each f _ no_more = none
+of_each f _ (one_more ls ks h more) = subst (IsRepeated (HasForm f)) (sym (numbers_both ls ks)) (next (numbers ls) (numbers ks) h (of_each f ks more))
+
+-- Signs that may stand among tokens
+
+abbrev pub Only : (Sign → Bool) → List Lexeme → Type 0
+Only allowed ls = AllByRecursion (λ l. allowed (sign_of l) ≡ true) ls
+
+pub clash : true ≡ false → ⊥
+clash e = let f : ⊥ = cc in f
+
+pub lacks_other : (allowed : Sign → Bool) (s : Sign) (ls : List Lexeme) → Only allowed ls → allowed s ≡ false → Lacks s ls
+lacks_other allowed s [] h e = tt
+lacks_other allowed s (l ∷ ls) h e = ((λ same. clash (sym h.0 ∙ (ap allowed same ∙ e))), lacks_other allowed s ls h.1 e)

@@ -1,6 +1,6 @@
 -- Prefixes, and the IRIs that are written by them (SPARQL 1.1, section 4.1.1; section 19.8, rules 4, 6, 136 and 137). Texts
 -- are bytes in UTF-8.
-use Rattle.std.specs.Prelude.{◌≡◌, ℕ, Bool, not, List, [], ◌∷◌, ◌++◌, ◌==◌, encode_utf8_all}
+use Rattle.std.specs.Prelude.{◌≡◌, ℕ, not, List, [], ◌∷◌, ◌++◌, ◌==◌, encode_utf8_all}
 use Rattle.std.specs.List.{AllByRecursion, filter}
 use Rattle.std.specs.Str.{chars}
 use Rattle.query_grammar.specs.Lexemes.{Lexeme}

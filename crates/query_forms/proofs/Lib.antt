@@ -1,3 +1,4 @@
+pub mod Apart
 pub mod Assembled
 pub mod Blocks
 pub mod Firsts

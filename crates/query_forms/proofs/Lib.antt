@@ -1,7 +1,6 @@
 pub mod Apart
 pub mod Assembled
 pub mod Blocks
-pub mod Firsts
 pub mod Headed
 pub mod Lexed
 pub mod Limits

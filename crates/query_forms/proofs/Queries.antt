@@ -17,7 +17,6 @@ use Rattle.query_grammar.specs.Signs as sign
 use Rattle.query_grammar.specs.Signs.{Sign, Limit, Offset, OpenBrace, CloseBrace, sign_of, role_of}
 use Rattle.query_grammar.specs.Texts.{iri_text, string_text, is_sound_by, is_sound}
 use Rattle.query_grammar.proofs.Outlines.{tests_outlines}
-use Rattle.query_tokens.specs.Tokens.{kinds}
 use Rattle.query_forms.specs.Heads.{IsHead}
 use Rattle.query_forms.specs.Laws.{QueriesAsProductions}
 use Rattle.query_forms.specs.Lexing.{IsLexed, end, next}
@@ -25,7 +24,6 @@ use Rattle.query_forms.specs.Patterns.{IsPattern}
 use Rattle.query_forms.specs.Whole.{MeansSome, AreQuery, IsQueryText}
 use Rattle.query_forms.proofs.Assembled.{found_query, query_found}
 use Rattle.query_forms.proofs.Blocks.{is_known, block_tokens}
-use Rattle.query_forms.proofs.Firsts.{first_is}
 use Rattle.query_forms.proofs.Headed.{Sound, prologue_from, in_braces}
 use Rattle.query_forms.proofs.Lexed.{lexes_as_productions}
 use Rattle.query_forms.proofs.Meant.{mean_as_productions}
@@ -115,7 +113,7 @@ parts_of all = parts_from (place_of OpenBrace all + 1) (block_of all)
 
 lexed_colons : (cs : List ℕ) (ls : List Lexeme) → IsLexed cs ls → Colons ls
 lexed_colons _ _ (end gap is) = tt
-lexed_colons _ _ (next gap token rest kind ls far longest first more) = (token_colon kind token (first_is kinds kind token first), lexed_colons rest ls more)
+lexed_colons _ _ (next gap token rest kind ls far longest is more) = (token_colon kind token is, lexed_colons rest ls more)
 
 front_sound : (ls ks : List Lexeme) → Sound (ls ++ ks) → Sound ls
 front_sound [] ks h = tt

@@ -4,13 +4,15 @@ use Rattle.std.specs.Prelude.{◌==◌}
 use Rattle.std.proofs.lemmas.Bool.Decides.{nat_tests}
 use Rattle.std.proofs.lemmas.List.{take-append-drop, length-take, length-drop}
 use Rattle.std.proofs.Math.Seq.{take-append_seam, drop-append_seam}
-use Rattle.query_tokens.specs.Tokens.{Kind, kinds, IsToken, IsGap}
+use Rattle.query_tokens.proofs.Behind.{has_optional}
+use Rattle.query_tokens.specs.Tokens.{Kind, Iri, PnameNs, PnameLn, Label, Var, LangTag, Integer, Decimal, Double, SignedInteger, SignedDecimal, SignedDouble, Str, Word, Mark, form_of, IsToken, IsGap}
 use Rattle.query_tokens.specs.Front.{token_at, gap_at}
 use Rattle.query_tokens.proofs.Longest.{finds_tokens, finds_gaps}
 use Rattle.query_grammar.specs.Lexemes.{Lexeme, lexeme, one_before, behind_gap, lexed_up_to, lexed}
 use Rattle.query_forms.specs.Laws.{LexesAsProductions}
-use Rattle.query_forms.specs.Lexing.{IsLongest, IsSomeToken, IsFirstKind, IsLexed, end, next}
-use Rattle.query_forms.proofs.Firsts.{token_first, one_kind, first_is, none_empty}
+use Rattle.query_forms.specs.Lexing.{IsLongest, IsSomeToken, IsLexed, end, next}
+use Rattle.query_forms.proofs.Apart.{one_kind}
+use Rattle.query_forms.proofs.Signed.{clash}
 
 no_length : (cs : List ℕ) → length cs ≡ 0 → cs ≡ []
 no_length [] e = refl
@@ -27,6 +29,24 @@ some_is n e = grind (arith, nat_tests)
 
 length_front : (n : ℕ) (cs : List ℕ) → n ≤ length cs → length (take n cs) ≡ n
 length_front n cs le = omega (arith, length-take n cs, le)
+
+-- no token is empty
+none_empty : (kind : Kind) → IsToken kind [] → ⊥
+none_empty Iri h = clash (sym (has_optional (form_of Iri) h))
+none_empty PnameNs h = clash (sym (has_optional (form_of PnameNs) h))
+none_empty PnameLn h = clash (sym (has_optional (form_of PnameLn) h))
+none_empty Label h = clash (sym (has_optional (form_of Label) h))
+none_empty Var h = clash (sym (has_optional (form_of Var) h))
+none_empty LangTag h = clash (sym (has_optional (form_of LangTag) h))
+none_empty Integer h = clash (sym (has_optional (form_of Integer) h))
+none_empty Decimal h = clash (sym (has_optional (form_of Decimal) h))
+none_empty Double h = clash (sym (has_optional (form_of Double) h))
+none_empty SignedInteger h = clash (sym (has_optional (form_of SignedInteger) h))
+none_empty SignedDecimal h = clash (sym (has_optional (form_of SignedDecimal) h))
+none_empty SignedDouble h = clash (sym (has_optional (form_of SignedDouble) h))
+none_empty Str h = clash (sym (has_optional (form_of Str) h))
+none_empty Word h = clash (sym (has_optional (form_of Word) h))
+none_empty Mark h = clash (sym (has_optional (form_of Mark) h))
 
 -- The gap that is found
 
@@ -88,11 +108,8 @@ module _ (cs : List ℕ) (kind : Kind) (n : ℕ) (is : token_at cs ≡ Some (kin
     by zero e = absurd (none_empty kind (subst (λ m. IsToken kind (take m cs)) e (finds_tokens.found cs kind n is).1))
     by (suc m) e = omega (arith, e)
 
-record Finds (token rest : List ℕ) (kind : Kind) : Type 0 where
-  found : token_at (token ++ rest) ≡ Some (kind, length token)
-
-token_found : (token rest : List ℕ) (kind : Kind) → IsLongest IsSomeToken token rest → IsFirstKind kinds kind token → token_at (token ++ rest) ≡ Some (kind, length token)
-token_found token rest kind h first =
+token_found : (token rest : List ℕ) (kind : Kind) → IsLongest IsSomeToken token rest → IsToken kind token → token_at (token ++ rest) ≡ Some (kind, length token)
+token_found token rest kind h of_kind =
     let l = finds_tokens.longest h.is.0 token rest h.is.1 in
     with_pair l.0.0 l.0.1 l.1 l.2 where
       with_pair : (k : Kind) (n : ℕ) → token_at (token ++ rest) ≡ Some (k, n) → length token ≤ n → token_at (token ++ rest) ≡ Some (kind, length token)
@@ -101,7 +118,7 @@ token_found token rest kind h first =
           let high = h.longest (take n (token ++ rest)) (drop n (token ++ rest)) (k, f.1) (sym (take-append-drop n (token ++ rest))) in
           let size : n ≡ length token = omega (arith, low, high, length_front n (token ++ rest) f.0) in
           let text : take n (token ++ rest) ≡ token = ap (λ m. take m (token ++ rest)) size ∙ take-append_seam token rest in
-          let same : k ≡ kind = one_kind kinds k kind token (subst (IsFirstKind kinds k) text (token_first (token ++ rest) k n is)) first in
+          let same : k ≡ kind = one_kind k kind token (subst (IsToken k) text f.1) of_kind in
           is ∙ ap (λ (x : Kind). Some (let p : Kind × ℕ = (x, n) in p)) same ∙ ap (λ (m : ℕ). Some (let p : Kind × ℕ = (kind, m) in p)) size
 
 -- All of them
@@ -151,7 +168,7 @@ found_lexed (suc most) cs ls e = by (found_lexed most) (length (behind_gap cs) =
       let s = split (lexeme p.0 (take p.1 b)) (lexed_up_to most (drop p.1 b)) ls e in
       subst (IsLexed cs) s.is
       (subst (λ k. IsLexed k (lexeme p.0 (take p.1 b) ∷ s.more)) (ap (λ k. gap_of cs ++ k) (take-append-drop p.1 b) ∙ gap_and cs)
-      (next (gap_of cs) (take p.1 b) (drop p.1 b) p.0 s.more (gap_longest cs (take p.1 b ++ drop p.1 b) (take-append-drop p.1 b)) (token_longest b p.0 p.1 is) (token_first b p.0 p.1 is)
+      (next (gap_of cs) (take p.1 b) (drop p.1 b) p.0 s.more (gap_longest cs (take p.1 b ++ drop p.1 b) (take-append-drop p.1 b)) (token_longest b p.0 p.1 is) (finds_tokens.found b p.0 p.1 is).1
       (behind (drop p.1 b) s.more s.rest)))
 
   by : Lexes most → (b : Bool) → (length (behind_gap cs) == 0) ≡ b → cond {A = Tokens} b (Some []) (from_token (token_at (behind_gap cs)) (behind_gap cs) (lexed_up_to most)) ≡ Some ls → IsLexed cs ls
@@ -166,9 +183,9 @@ whole_gap gap is =
 lexed_found : (cs : List ℕ) (ls : List Lexeme) → IsLexed cs ls → (most : ℕ) → length cs ≤ most → lexed_up_to most cs ≡ Some ls
 lexed_found _ _ (end gap is) zero le = ap (λ b. cond {A = Tokens} b (Some []) None) (zero_is (length (behind_gap gap)) (whole_gap gap is))
 lexed_found _ _ (end gap is) (suc most) le = step most gap ∙ ap (λ b. cond {A = Tokens} b (Some []) (from_token (token_at (behind_gap gap)) (behind_gap gap) (lexed_up_to most))) (zero_is (length (behind_gap gap)) (whole_gap gap is))
-lexed_found _ _ (next gap token rest kind ls far longest first more) most le = by (lexed_found rest ls more) most le where
+lexed_found _ _ (next gap token rest kind ls far longest is_token more) most le = by (lexed_found rest ls more) most le where
   some : 0 < length token
-  some = at_least token (first_is kinds kind token first) where
+  some = at_least token is_token where
     at_least : (t : List ℕ) → IsToken kind t → 0 < length t
     at_least [] h = absurd (none_empty kind h)
     at_least (c ∷ t) h = omega arith
@@ -182,7 +199,7 @@ lexed_found _ _ (next gap token rest kind ls far longest first more) most le = b
       step most (gap ++ (token ++ rest))
       ∙ ap (λ b. cond {A = Tokens} (length b == 0) (Some []) (from_token (token_at b) b (lexed_up_to most))) (behind_found gap (token ++ rest) far)
       ∙ ap (λ z. cond {A = Tokens} z (Some []) (from_token (token_at (token ++ rest)) (token ++ rest) (lexed_up_to most))) (some_is (length (token ++ rest)) (let n = length-append token rest in omega (arith, n, some)))
-      ∙ ap (λ o. from_token o (token ++ rest) (lexed_up_to most)) (token_found token rest kind longest first)
+      ∙ ap (λ o. from_token o (token ++ rest) (lexed_up_to most)) (token_found token rest kind longest is_token)
       ∙ ap (λ t. one_before (lexeme kind t) (lexed_up_to most (drop (length token) (token ++ rest)))) (take-append_seam token rest)
       ∙ ap (one_before (lexeme kind token)) (ap (lexed_up_to most) (drop-append_seam token rest) ∙ behind most (omega (arith, le, long, some)))
 

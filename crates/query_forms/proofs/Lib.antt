@@ -1,4 +1,14 @@
-pub mod Firsts
+pub mod Apart
+pub mod Assembled
+pub mod Blocks
+pub mod Headed
 pub mod Lexed
+pub mod Limits
 pub mod Meant
+pub mod Named
+pub mod Outlined
+pub mod Placed
+pub mod Prefixed
 pub mod Queries
+pub mod Selected
+pub mod Signed

@@ -1,10 +1,18 @@
 -- How the productions and the functions from the front agree.
-use Rattle.std.specs.Prelude.{◌≡◌, ◌↔◌, ℕ, List, Some}
-use Rattle.query_grammar.specs.Lexemes.{Lexeme, lexed}
-use Rattle.query_grammar.specs.Meaning.{Query, IsQuery, query_of}
-use Rattle.query_grammar.specs.Texts.{unescaped, iri_text, string_text}
+use Rattle.std.specs.Prelude.{◌≡◌, ◌↔◌, ℕ, List, [], ◌++◌, map, Option, Some}
+use Rattle.std.specs.List.{AllByRecursion}
+use Rattle.query_tokens.specs.Forms.{HasForm}
+use Rattle.query_tokens.specs.Tokens.{Kind, IsToken}
+use Rattle.query_grammar.specs.Lexemes.{Lexeme, lexeme, lexed}
+use Rattle.query_grammar.specs.Meaning.{Name, Query, IsQuery, query_of, names_from, variables_from, number_behind, or_zero}
+use Rattle.query_grammar.specs.Outline.{limits}
+use Rattle.query_grammar.specs.Signs.{Sign, Prefix, Limit, Offset, number_of, sign_of}
+use Rattle.query_grammar.specs.Texts.{unescaped, iri_text, string_text, declared, name_iri}
 use Rattle.query_forms.specs.Insides.{Means, MeansIri, MeansText}
 use Rattle.query_forms.specs.Lexing.{IsLexed}
+use Rattle.query_forms.specs.Naming.{IsName, IsVariable, AreNames}
+use Rattle.query_forms.specs.Prologues.{Declaration, IsPrologue, StandsFor, MeansName}
+use Rattle.query_forms.specs.Tails.{IsTail}
 use Rattle.query_forms.specs.Whole.{IsQueryText}
 
 -- A text has exactly the tokens that are found in it.
@@ -16,6 +24,30 @@ pub record MeanAsProductions : Type 0 where
   pub insides : (cs meant : List ℕ) → Means cs meant ↔ (unescaped cs ≡ Some meant)
   pub iris : (token iri : List ℕ) → MeansIri token iri ↔ (iri_text token ≡ Some iri)
   pub texts : (token text : List ℕ) → MeansText token text ↔ (string_text token ≡ Some text)
+
+-- none of the tokens has the sign
+abbrev pub Lacks : Sign → List Lexeme → Type 0
+Lacks s ls = AllByRecursion (λ l. sign_of l ≡ s → ⊥) ls
+
+-- The limit and the offset are those that are found, where what stands before them has none.
+abbrev pub TailsAsProductions : Type 0
+TailsAsProductions = (before tail : List Lexeme) (limit : Option ℕ) (offset : ℕ) → Lacks Limit before → Lacks Offset before
+    → IsTail tail limit offset ↔ (HasForm limits (map number_of (map sign_of tail))
+    × (limit ≡ number_behind Limit (before ++ tail)) × (offset ≡ or_zero (number_behind Offset (before ++ tail))))
+
+-- Prefixes and names stand for exactly what is found, where all declarations come first.
+pub record PrefixesAsProductions : Type 0 where
+  pub prefixes : (prologue rest : List Lexeme) (ds : List Declaration) → IsPrologue prologue ds → Lacks Prefix rest
+      → (prefix iri : List ℕ) → StandsFor ds prefix iri ↔ (declared prefix (prologue ++ rest) ≡ Some iri)
+  pub names : (prologue rest : List Lexeme) (ds : List Declaration) → IsPrologue prologue ds → Lacks Prefix rest
+      → (kind : Kind) (token : List ℕ) → IsToken kind token
+      → (iri : List ℕ) → MeansName ds (lexeme kind token) iri ↔ (name_iri (prologue ++ rest) (lexeme kind token) ≡ Some iri)
+
+-- The names and the variables of tokens are those that are found, in that order.
+pub record NamesAsProductions : Type 0 where
+  pub names : (i : ℕ) (ls : List Lexeme) (names : List Name) → AreNames IsName i ls names ↔ (names ≡ names_from [] i ls)
+  pub variables : (i : ℕ) (ls : List Lexeme) (names : List Name)
+      → AreNames IsVariable i ls names ↔ (names ≡ variables_from (names_from [] i ls))
 
 -- A text is exactly the query that is found.
 abbrev pub QueriesAsProductions : Type 0

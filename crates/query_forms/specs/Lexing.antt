@@ -1,7 +1,7 @@
 -- The tokens of a query's text by productions (SPARQL 1.1, sections 19.4 and 19.8). Between tokens stand blanks and comments;
 -- these go as far as they can, and so does each token.
-use Rattle.std.specs.Prelude.{◌≡◌, ℕ, ◌≤◌, ◌⊎◌, List, [], ◌∷◌, ◌++◌, length}
-use Rattle.query_tokens.specs.Tokens.{Kind, kinds, IsToken, IsGap}
+use Rattle.std.specs.Prelude.{◌≡◌, ℕ, ◌≤◌, List, [], ◌∷◌, ◌++◌, length}
+use Rattle.query_tokens.specs.Tokens.{Kind, IsToken, IsGap}
 use Rattle.query_grammar.specs.Lexemes.{Lexeme, lexeme}
 
 -- of the fronts of a text that are so, this is the longest
@@ -13,14 +13,9 @@ pub record IsLongest (Is : List ℕ → Type 0) (front back : List ℕ) : Type 0
 abbrev pub IsSomeToken : List ℕ → Type 0
 IsSomeToken text = (kind : Kind) × IsToken kind text
 
--- the kind is the first of these that the text is a token of
-abbrev pub IsFirstKind : List Kind → Kind → List ℕ → Type 0
-IsFirstKind [] kind text = ⊥
-IsFirstKind (k ∷ ks) kind text = ((k ≡ kind) × IsToken k text) ⊎ ((IsToken k text → ⊥) × IsFirstKind ks kind text)
-
 -- Text ::= Gap (Token Text)?
 pub data IsLexed : List ℕ → List Lexeme → Type 0 where
   end : (gap : List ℕ) → IsGap gap → IsLexed gap []
   next : (gap token rest : List ℕ) (kind : Kind) (ls : List Lexeme)
-      → IsLongest IsGap gap (token ++ rest) → IsLongest IsSomeToken token rest → IsFirstKind kinds kind token
+      → IsLongest IsGap gap (token ++ rest) → IsLongest IsSomeToken token rest → IsToken kind token
       → IsLexed rest ls → IsLexed (gap ++ (token ++ rest)) (lexeme kind token ∷ ls)

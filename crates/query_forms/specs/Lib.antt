@@ -1,4 +1,9 @@
+pub mod Heads
 pub mod Insides
 pub mod Laws
 pub mod Lexing
+pub mod Naming
+pub mod Patterns
+pub mod Prologues
+pub mod Tails
 pub mod Whole

@@ -3,7 +3,13 @@
 //! find the same from the front; those below say that the two agree.
 #![tactic(auto)]
 
-ghost use Rattle.query_forms.specs.Laws.{LexesAsProductions, MeanAsProductions, QueriesAsProductions};
+ghost use Rattle.query_tokens.specs.Laws.{OneKind};
+ghost use Rattle.query_forms.specs.Laws.{LexesAsProductions, MeanAsProductions, TailsAsProductions, PrefixesAsProductions, NamesAsProductions, QueriesAsProductions};
+
+/// No text is a token of two kinds.
+pub fn tokens_have_one_kind()
+    ensures { OneKind }
+{}
 
 /// The tokens that are found in a text are those of the productions.
 pub fn tokens_by_productions()
@@ -13,6 +19,21 @@ pub fn tokens_by_productions()
 /// What is found of IRIs and strings is what the productions say.
 pub fn texts_by_productions()
     ensures { MeanAsProductions }
+{}
+
+/// The limit and the offset that are found are those of the productions.
+pub fn limits_by_productions()
+    ensures { TailsAsProductions }
+{}
+
+/// The IRIs that are found for prefixes and for names are those of the productions.
+pub fn prefixes_by_productions()
+    ensures { PrefixesAsProductions }
+{}
+
+/// The variables and the blank nodes that are found, and their order, are those of the productions.
+pub fn names_by_productions()
+    ensures { NamesAsProductions }
 {}
 
 /// The query that is found is the one of the productions, and none is found where they have none.

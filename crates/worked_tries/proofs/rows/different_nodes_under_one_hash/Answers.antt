@@ -15,6 +15,12 @@ add-requires-2 g c =
     (HasNoNode-with_row c.new-table.result c.in_ok-first.first _ two (subst (λ (t : Table Name). HasNoNode t two) (sym c.new-table.ensures) (HasNoNode-empty two))
     (λ same. let numbers = ap (λ (n : Name). n.0) same in absurd (omega arith)))
 
+pub remove-removed-requires-clause-there : goal.remove-removed-requires-clause-there
+remove-removed-requires-clause-there g c =
+    let first = row_at-written c.new-table.result _ _ _ c.in_ok-first.ensures.added in
+    let ne = apart c.add.new.self _ _ _ first c.in_ok-second.ensures.fresh in
+    IsSome-by (row_at-kept c.add.new.self _ _ _ _ c.in_ok-second.ensures.added ne ∙ first) refl
+
 pub remove-removed-requires-clause-last : goal.remove-removed-requires-clause-last
 remove-removed-requires-clause-last g c =
     let first = row_at-written c.new-table.result _ _ _ c.in_ok-first.ensures.added in

@@ -4,7 +4,7 @@ use Rattle.std.specs.List.{AllByRecursion}
 use Rattle.query_tokens.specs.Forms.{HasForm}
 use Rattle.query_tokens.specs.Tokens.{Kind, IsToken}
 use Rattle.query_grammar.specs.Lexemes.{Lexeme, lexeme, lexed}
-use Rattle.query_grammar.specs.Meaning.{Name, Query, IsQuery, query_of, names_from, variables_from, number_behind, or_zero}
+use Rattle.query_grammar.specs.Meaning.{Name, Query, Answer, IsQuery, query_of, names_from, variables_from, number_behind, or_zero}
 use Rattle.query_grammar.specs.Outline.{limits}
 use Rattle.query_grammar.specs.Signs.{Sign, Prefix, Limit, Offset, number_of, sign_of}
 use Rattle.query_grammar.specs.Texts.{unescaped, iri_text, string_text, declared, name_iri}
@@ -13,7 +13,7 @@ use Rattle.query_forms.specs.Lexing.{IsLexed}
 use Rattle.query_forms.specs.Naming.{IsName, IsVariable, AreNames}
 use Rattle.query_forms.specs.Prologues.{Declaration, IsPrologue, StandsFor, MeansName}
 use Rattle.query_forms.specs.Tails.{IsTail}
-use Rattle.query_forms.specs.Whole.{IsQueryText}
+use Rattle.query_forms.specs.Whole.{IsQueryText, HasAnswer}
 
 -- A text has exactly the tokens that are found in it.
 abbrev pub LexesAsProductions : Type 0
@@ -52,3 +52,7 @@ pub record NamesAsProductions : Type 0 where
 -- A text is exactly the query that is found.
 abbrev pub QueriesAsProductions : Type 0
 QueriesAsProductions = (text : List ℕ) (q : Query) → IsQueryText text q ↔ (query_of text ≡ IsQuery q)
+
+-- A text has exactly the answer that is found: the query, or the first fault.
+abbrev pub AnswersAsProductions : Type 0
+AnswersAsProductions = (text : List ℕ) (answer : Answer) → HasAnswer text answer ↔ (query_of text ≡ answer)

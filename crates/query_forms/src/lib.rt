@@ -4,7 +4,7 @@
 #![tactic(auto)]
 
 ghost use Rattle.query_tokens.specs.Laws.{OneKind};
-ghost use Rattle.query_forms.specs.Laws.{LexesAsProductions, MeanAsProductions, TailsAsProductions, PrefixesAsProductions, NamesAsProductions, QueriesAsProductions};
+ghost use Rattle.query_forms.specs.Laws.{LexesAsProductions, MeanAsProductions, TailsAsProductions, PrefixesAsProductions, NamesAsProductions, QueriesAsProductions, AnswersAsProductions};
 
 /// No text is a token of two kinds.
 pub fn tokens_have_one_kind()
@@ -36,7 +36,8 @@ pub fn names_by_productions()
     ensures { NamesAsProductions }
 {}
 
-/// The query that is found is the one of the productions, and none is found where they have none.
+/// The query that is found, or the first fault, is the one of the productions.
 pub fn queries_by_productions()
-    ensures { QueriesAsProductions }
+    ensures queries { QueriesAsProductions }
+    ensures answers { AnswersAsProductions }
 {}

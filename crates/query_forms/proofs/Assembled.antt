@@ -3,18 +3,20 @@ use Rattle.std.proofs.Common.{◌≡◌, ◌∙◌, ◌+◌, ◌<◌, ℕ, zero,
 use Rattle.std.specs.List.{AllByRecursion, AllZip}
 use Rattle.std.proofs.lemmas.List.Folds.{list_any-append}
 use Rattle.std.proofs.lemmas.List.{get_or_append_left}
+use Rattle.std.specs.Prelude.{◌↔◌}
+use Rattle.rdf_model.specs.Terms as rdf
 use Rattle.query_grammar.specs.Block.{Part, Triple, IsBlock}
 use Rattle.query_grammar.specs.BlockFront.{triples_of}
 use Rattle.query_grammar.specs.Lexemes.{Lexeme}
-use Rattle.query_grammar.specs.Meaning.{Name, Column, Query, Pattern, no_lexeme, at, is_sign, same_name, name_of, with_name, with_some, place_of, has_sign, block_of, parts_from, names_from, names_of, patterns_of, selected, column_of, number_behind, or_zero, query_by}
+use Rattle.query_grammar.specs.Meaning.{Name, Column, Query, Pattern, no_lexeme, at, is_sign, same_name, name_of, with_name, with_some, place_of, has_sign, block_of, parts_from, names_from, names_of, term_at, patterns_of, selected, column_of, number_behind, or_zero, query_by}
 use Rattle.query_grammar.specs.Outline.{limits, HasOutline}
 use Rattle.query_grammar.specs.Signs.{Sign, Prefix, Distinct, Limit, Offset, OpenBrace, CloseBrace, sign_of, role_of}
 use Rattle.query_grammar.proofs.Complete.{block_found}
 use Rattle.query_grammar.proofs.Sound.{block_meant}
 use Rattle.query_forms.specs.Heads.{IsHead, IsColumn}
-use Rattle.query_forms.specs.Laws.{Lacks}
+use Rattle.query_forms.specs.Laws.{Lacks, FormsAsProductions}
 use Rattle.query_forms.specs.Naming.{IsName, AreNames}
-use Rattle.query_forms.specs.Patterns.{IsPattern}
+use Rattle.query_forms.specs.Patterns.{IsTerm, IsPattern}
 use Rattle.query_forms.specs.Prologues.{Declaration}
 use Rattle.query_forms.specs.Tails.{IsTail}
 use Rattle.query_forms.specs.Whole.{HasQueryForm, AreQuery}
@@ -22,7 +24,7 @@ use Rattle.query_forms.proofs.Blocks.{is_known, InBlock, block_tokens, Within, t
 use Rattle.query_forms.proofs.Limits.{tails_as_productions}
 use Rattle.query_forms.proofs.Named.{among, Distinct as AllDistinct, distinct_once, is_same, names_as_productions}
 use Rattle.query_forms.proofs.Outlined.{whole, has_outline_of}
-use Rattle.query_forms.proofs.Placed.{Colons, Ready, at_place, patterns_found, found_patterns}
+use Rattle.query_forms.proofs.Placed.{terms_at, Colons, Ready, at_place, patterns_found, found_patterns}
 use Rattle.query_forms.proofs.Selected.{in_tail, tail_only, head_lacks, behind_prologue, no_prefix, distinct_is, names_are, parts_are, selected_are, selection_variables, columns_found, found_columns}
 use Rattle.query_forms.proofs.Signed.{at_past, lacks_both, lacks_other, is_it, Fits}
 
@@ -288,6 +290,30 @@ module _ (all : List Lexeme) (f : HasQueryForm all) where
       (patterns_are f.block f.head f.tail f.brace f.declarations f.distinct f.variables f.is_head f.is_brace no_close f.limit f.offset f.is_tail known
       (subst Colons f.are colons) f.triples patterns f.is_block
       (ap (λ ts. patterns_of ts (names_of ts) f.triples) (sym f.are) ∙ e)))
+
+  first_prologue : all ≡ f.is_head.prologue ++ behind_prologue f.block f.head f.declarations f.distinct f.variables f.is_head (f.block ++ f.brace ∷ f.tail)
+  first_prologue = f.are ∙ prologue_first f.block f.head f.tail f.brace f.declarations f.distinct f.variables f.is_head f.is_brace no_close
+
+  no_prefix_behind : Lacks Prefix (behind_prologue f.block f.head f.declarations f.distinct f.variables f.is_head (f.block ++ f.brace ∷ f.tail))
+  no_prefix_behind = behind_lacks f.block f.head f.tail f.brace f.declarations f.distinct f.variables f.is_head f.is_brace no_close f.limit f.offset f.is_tail known
+
+  form_terms : Colons all → (i : ℕ) (t : rdf.Term) → IsTerm f.declarations (drop i all) t ↔ (term_at all i ≡ Some t)
+  form_terms colons i t =
+      let rest = behind_prologue f.block f.head f.declarations f.distinct f.variables f.is_head (f.block ++ f.brace ∷ f.tail) in
+      subst (λ ts. IsTerm f.declarations (drop i ts) t ↔ (term_at ts i ≡ Some t)) (sym first_prologue)
+      (terms_at f.is_head.prologue rest f.declarations f.is_head.is_prologue no_prefix_behind i t (all_drop i _ (subst Colons first_prologue colons)))
+
+  pub forms_as_productions : Colons all → FormsAsProductions all f
+  forms_as_productions colons = record {
+    distinct = form_distinct;
+    variables = form_variables;
+    names = form_names;
+    limit = form_limit;
+    offset = form_offset;
+    columns = λ cs. (form_columns cs, (λ e. subst (AllZip (IsColumn f.names) f.variables) (sym e) columns_formed));
+    terms = form_terms colons;
+    patterns = λ patterns. (form_patterns patterns, patterns_formed patterns colons);
+  }
 
 -- The query of tokens, by the functions and by the productions
 

@@ -18,10 +18,10 @@ use Rattle.query_grammar.specs.Signs.{Sign, Limit, Offset, OpenBrace, CloseBrace
 use Rattle.query_grammar.specs.Texts.{iri_text, string_text, is_sound_by, is_sound}
 use Rattle.query_grammar.proofs.Outlines.{tests_outlines}
 use Rattle.query_forms.specs.Heads.{IsHead}
-use Rattle.query_forms.specs.Laws.{QueriesAsProductions, AnswersAsProductions}
+use Rattle.query_forms.specs.Laws.{AllFormsAsProductions, QueriesAsProductions, AnswersAsProductions}
 use Rattle.query_forms.specs.Lexing.{IsLexed, end, next}
 use Rattle.query_forms.specs.Whole.{MeansSome, AreTokens, HasQueryForm, IsQueryLike, IsUnbounded, HasFewPatterns, HasFewColumns, HasSmallNumbers, HasAnswer}
-use Rattle.query_forms.proofs.Assembled.{found_form, form_outline, form_block, form_patterns, found_query, query_found}
+use Rattle.query_forms.proofs.Assembled.{found_form, form_outline, form_block, form_patterns, forms_as_productions, found_query, query_found}
 use Rattle.query_forms.proofs.Headed.{Sound, prologue_from, in_braces}
 use Rattle.query_forms.proofs.Lexed.{lexes_as_productions}
 use Rattle.query_forms.proofs.Meant.{mean_as_productions}
@@ -307,6 +307,9 @@ module _ (text : List ℕ) where
 
 pub answers_as_productions : AnswersAsProductions
 answers_as_productions = λ text answer. (answer_found text answer, (λ e. subst (HasAnswer text) e (found_answer text)))
+
+pub all_forms_as_productions : AllFormsAsProductions
+all_forms_as_productions = λ cs tokens is form. forms_as_productions tokens form (lexed_colons cs tokens is)
 
 pub queries_as_productions : QueriesAsProductions
 queries_as_productions = λ text q. answers_as_productions text (IsQuery q)

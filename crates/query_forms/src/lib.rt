@@ -4,7 +4,7 @@
 #![tactic(auto)]
 
 ghost use Rattle.query_tokens.specs.Laws.{OneKind};
-ghost use Rattle.query_forms.specs.Laws.{LexesAsProductions, MeanAsProductions, TailsAsProductions, PrefixesAsProductions, NamesAsProductions, QueriesAsProductions, AnswersAsProductions};
+ghost use Rattle.query_forms.specs.Laws.{LexesAsProductions, MeanAsProductions, TailsAsProductions, PrefixesAsProductions, NamesAsProductions, AllFormsAsProductions, QueriesAsProductions, AnswersAsProductions};
 
 /// No text is a token of two kinds.
 pub fn tokens_have_one_kind()
@@ -34,6 +34,11 @@ pub fn prefixes_by_productions()
 /// The variables and the blank nodes that are found, and their order, are those of the productions.
 pub fn names_by_productions()
     ensures { NamesAsProductions }
+{}
+
+/// What is found of tokens that have the form of a query is what the productions say: columns, terms, patterns, numbers.
+pub fn forms_by_productions()
+    ensures { AllFormsAsProductions }
 {}
 
 /// The query that is found, or the first fault, is the one of the productions.

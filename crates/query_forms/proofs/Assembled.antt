@@ -3,26 +3,28 @@ use Rattle.std.proofs.Common.{◌≡◌, ◌∙◌, ◌+◌, ◌<◌, ℕ, zero,
 use Rattle.std.specs.List.{AllByRecursion, AllZip}
 use Rattle.std.proofs.lemmas.List.Folds.{list_any-append}
 use Rattle.std.proofs.lemmas.List.{get_or_append_left}
+use Rattle.std.specs.Prelude.{◌↔◌}
+use Rattle.rdf_model.specs.Terms as rdf
 use Rattle.query_grammar.specs.Block.{Part, Triple, IsBlock}
 use Rattle.query_grammar.specs.BlockFront.{triples_of}
 use Rattle.query_grammar.specs.Lexemes.{Lexeme}
-use Rattle.query_grammar.specs.Meaning.{Name, Query, Pattern, no_lexeme, at, is_sign, same_name, name_of, with_name, with_some, place_of, has_sign, block_of, parts_from, names_from, names_of, patterns_of, selected, column_of, number_behind, or_zero, query_by}
-use Rattle.query_grammar.specs.Outline.{limits}
+use Rattle.query_grammar.specs.Meaning.{Name, Column, Query, Pattern, no_lexeme, at, is_sign, same_name, name_of, with_name, with_some, place_of, has_sign, block_of, parts_from, names_from, names_of, term_at, patterns_of, selected, column_of, number_behind, or_zero, query_by}
+use Rattle.query_grammar.specs.Outline.{limits, HasOutline}
 use Rattle.query_grammar.specs.Signs.{Sign, Prefix, Distinct, Limit, Offset, OpenBrace, CloseBrace, sign_of, role_of}
 use Rattle.query_grammar.proofs.Complete.{block_found}
 use Rattle.query_grammar.proofs.Sound.{block_meant}
 use Rattle.query_forms.specs.Heads.{IsHead, IsColumn}
-use Rattle.query_forms.specs.Laws.{Lacks}
+use Rattle.query_forms.specs.Laws.{Lacks, FormsAsProductions}
 use Rattle.query_forms.specs.Naming.{IsName, AreNames}
-use Rattle.query_forms.specs.Patterns.{IsPattern}
+use Rattle.query_forms.specs.Patterns.{IsTerm, IsPattern}
 use Rattle.query_forms.specs.Prologues.{Declaration}
 use Rattle.query_forms.specs.Tails.{IsTail}
-use Rattle.query_forms.specs.Whole.{AreQuery}
+use Rattle.query_forms.specs.Whole.{HasQueryForm, AreQuery}
 use Rattle.query_forms.proofs.Blocks.{is_known, InBlock, block_tokens, Within, triples_within}
 use Rattle.query_forms.proofs.Limits.{tails_as_productions}
 use Rattle.query_forms.proofs.Named.{among, Distinct as AllDistinct, distinct_once, is_same, names_as_productions}
-use Rattle.query_forms.proofs.Outlined.{whole}
-use Rattle.query_forms.proofs.Placed.{Colons, Ready, at_place, patterns_found, found_patterns}
+use Rattle.query_forms.proofs.Outlined.{whole, has_outline_of}
+use Rattle.query_forms.proofs.Placed.{terms_at, Colons, Ready, at_place, patterns_found, found_patterns}
 use Rattle.query_forms.proofs.Selected.{in_tail, tail_only, head_lacks, behind_prologue, no_prefix, distinct_is, names_are, parts_are, selected_are, selection_variables, columns_found, found_columns}
 use Rattle.query_forms.proofs.Signed.{at_past, lacks_both, lacks_other, is_it, Fits}
 
@@ -185,77 +187,154 @@ module _ (block head tail : List Lexeme) (brace : Lexeme) (ds : List Declaration
         ∙ patterns_found h.prologue behind ds h.is_prologue behind_lacks numbered apart triples patterns
         (subst (λ ts. AllZip (IsPattern ds numbered ts) triples patterns) prologue_first all)
 
-    columns_are : map (column_of (names_of tokens)) (selected tokens) ≡ map (column_of numbered) variables
-    columns_are = (λ i. map (column_of (names_is i)) (selected_are block head tail brace ds d variables h closes block_close i))
-
-  -- what is found is of the productions
-  pub found_query : (triples : List Triple) (patterns : List Pattern) → Colons tokens → triples_of parts ≡ Some triples
-      → patterns_of tokens (names_of tokens) triples ≡ Some patterns → Fits limits tail → AreQuery tokens (query_by tokens patterns)
-  found_query triples patterns colons e named_patterns fits =
+  -- the form that is found
+  pub found_form : (triples : List Triple) → triples_of parts ≡ Some triples → Fits limits tail → HasQueryForm tokens
+  found_form triples e fits =
       let is = block_parts triples e in
-      let known = block_tokens (length head) block triples is in
-      let l = number_behind Limit tokens in
-      let o = or_zero (number_behind Offset tokens) in
-      let is_tail = found_tail known fits in
       record {
         head = head;
         block = block;
         brace = brace;
         tail = tail;
         declarations = ds;
-        names = numbered;
+        distinct = d;
         variables = variables;
         triples = triples;
+        names = numbered;
+        limit = number_behind Limit tokens;
+        offset = or_zero (number_behind Offset tokens);
         are = refl;
-        is_head = subst (λ b. IsHead block head ds b variables) (sym (distinct_found l o is_tail known)) h;
+        is_head = h;
         is_block = is;
         is_brace = closes;
-        is_tail = is_tail;
+        is_tail = found_tail (block_tokens (length head) block triples is) fits;
         are_names = numbered_are;
-        labels = ap length names_is;
-        columns = subst (AllZip (IsColumn numbered) variables) (sym (columns_are l o is_tail known))
-            (found_columns numbered apart variables (selection_variables block h.selection variables h.is_selection));
-        patterns = patterns_are l o is_tail known colons triples patterns is named_patterns;
       }
 
-  -- what the functions say of the query of the productions
-  pub record Found (q : Query) : Type 0 where
-    pub triples : List Triple
-    pub block_is : triples_of parts ≡ Some triples
-    pub patterns : patterns_of tokens (names_of tokens) triples ≡ Some q.patterns
-    pub limit : number_behind Limit tokens ≡ q.limit
-    pub offset : or_zero (number_behind Offset tokens) ≡ q.offset
-    pub is : q ≡ query_by tokens q.patterns
-    pub fits : Fits limits tail
-    pub known : InBlock block
+  tail_numbers : (l : Option ℕ) (o : ℕ) → InBlock block → IsTail tail l o
+      → Fits limits tail × (l ≡ number_behind Limit tokens) × (o ≡ or_zero (number_behind Offset tokens))
+  tail_numbers l o known is_tail =
+      let numbers = (tails_as_productions before_tail tail l o (no_limit known) (no_offset known)).0 is_tail in (
+        numbers.0,
+        numbers.1 ∙ sym (ap (number_behind Limit) tail_behind),
+        numbers.2 ∙ sym (ap (λ ls. or_zero (number_behind Offset ls)) tail_behind),
+      )
 
-  pub query_found : (q : Query) (triples : List Triple) (names : List Name) → IsBlock (parts_from (length head) block) triples → IsTail tail q.limit q.offset
-      → AreNames IsName (length head) block names → d ≡ q.distinct → q.labels ≡ length names → AllZip (IsColumn names) variables q.columns
-      → AllZip (IsPattern ds names tokens) triples q.patterns → Found q
-  query_found q triples names is is_tail are same_distinct labels columns patterns =
-      let known = block_tokens (length head) block triples is in
-      let numbers = (tails_as_productions before_tail tail q.limit q.offset (no_limit known) (no_offset known)).0 is_tail in
-      let limit : q.limit ≡ number_behind Limit tokens = numbers.1 ∙ sym (ap (number_behind Limit) tail_behind) in
-      let offset : q.offset ≡ or_zero (number_behind Offset tokens) = numbers.2 ∙ sym (ap (λ ls. or_zero (number_behind Offset ls)) tail_behind) in
-      let same : names ≡ numbered = (names_as_productions.names (length head) block names).0 are in
-      let all_columns : q.columns ≡ map (column_of (names_of tokens)) (selected tokens) =
-      columns_found numbered apart variables q.columns (subst (λ ns. AllZip (IsColumn ns) variables q.columns) same columns) ∙ sym (columns_are q.limit q.offset is_tail known) in
-      let all_labels : q.labels ≡ length (names_of tokens) = labels ∙ ap length (same ∙ sym names_is) in
-      let is_distinct : q.distinct ≡ has_sign Distinct tokens = sym same_distinct ∙ sym (distinct_found q.limit q.offset is_tail known) in
-      record {
-        triples = triples;
-        block_is = parts_found triples is;
-        patterns = are_patterns q.limit q.offset is_tail known triples q.patterns (subst (λ ns. AllZip (IsPattern ds ns tokens) triples q.patterns) same patterns);
-        limit = sym limit;
-        offset = sym offset;
-        is = (λ i. record {
-          columns = all_columns i;
-          labels = all_labels i;
-          distinct = is_distinct i;
-          patterns = q.patterns;
-          limit = limit i;
-          offset = offset i;
-        });
-        fits = numbers.0;
-        known = known;
-      }
+-- What the functions say of tokens that have the form of a query
+
+module _ (all : List Lexeme) (f : HasQueryForm all) where
+  known : InBlock f.block
+  known = block_tokens (length f.head) f.block f.triples f.is_block
+
+  no_close : Lacks CloseBrace f.block
+  no_close = lacks_other (λ s. is_known (role_of s)) CloseBrace f.block known refl
+
+  numbers : Fits limits f.tail × (f.limit ≡ number_behind Limit (f.head ++ (f.block ++ f.brace ∷ f.tail))) × (f.offset ≡ or_zero (number_behind Offset (f.head ++ (f.block ++ f.brace ∷ f.tail))))
+  numbers = tail_numbers f.block f.head f.tail f.brace f.declarations f.distinct f.variables f.is_head f.is_brace no_close f.limit f.offset known f.is_tail
+
+  pub form_outline : HasOutline (map sign_of all)
+  form_outline = subst (λ ts. HasOutline (map sign_of ts)) (sym f.are)
+      (has_outline_of f.block f.head f.tail f.brace f.declarations f.distinct f.variables f.is_head known f.is_brace numbers.0)
+
+  pub form_block : triples_of (parts_from (place_of OpenBrace all + 1) (block_of all)) ≡ Some f.triples
+  form_block =
+      ap (λ ts. triples_of (parts_from (place_of OpenBrace ts + 1) (block_of ts))) f.are
+      ∙ parts_found f.block f.head f.tail f.brace f.declarations f.distinct f.variables f.is_head f.is_brace no_close f.triples f.is_block
+
+  pub form_limit : f.limit ≡ number_behind Limit all
+  form_limit = numbers.1 ∙ ap (number_behind Limit) (sym f.are)
+
+  pub form_offset : f.offset ≡ or_zero (number_behind Offset all)
+  form_offset = numbers.2 ∙ ap (λ ts. or_zero (number_behind Offset ts)) (sym f.are)
+
+  pub form_distinct : f.distinct ≡ has_sign Distinct all
+  form_distinct =
+      sym (distinct_found f.block f.head f.tail f.brace f.declarations f.distinct f.variables f.is_head f.is_brace no_close f.limit f.offset f.is_tail known)
+      ∙ ap (has_sign Distinct) (sym f.are)
+
+  pub form_names : f.names ≡ names_of all
+  form_names =
+      (names_as_productions.names (length f.head) f.block f.names).0 f.are_names
+      ∙ (sym (names_is f.block f.head f.tail f.brace f.declarations f.distinct f.variables f.is_head f.is_brace no_close)
+      ∙ ap names_of (sym f.are))
+
+  pub form_variables : f.variables ≡ selected all
+  form_variables =
+      sym (selected_are f.block f.head f.tail f.brace f.declarations f.distinct f.variables f.is_head f.is_brace no_close)
+      ∙ ap selected (sym f.are)
+
+  form_apart : AllDistinct f.names
+  form_apart = distinct_once f.are_names.all f.names f.are_names.once
+
+  pub form_columns : (cs : List Column) → AllZip (IsColumn f.names) f.variables cs → cs ≡ map (column_of (names_of all)) (selected all)
+  form_columns cs columns = columns_found f.names form_apart f.variables cs columns ∙ (λ i. map (column_of (form_names i)) (form_variables i))
+
+  pub columns_formed : AllZip (IsColumn f.names) f.variables (map (column_of (names_of all)) (selected all))
+  columns_formed = subst (AllZip (IsColumn f.names) f.variables) (λ i. map (column_of (form_names i)) (form_variables i))
+      (found_columns f.names form_apart f.variables (selection_variables f.block f.is_head.selection f.variables f.is_head.is_selection))
+
+  same_numbered : f.names ≡ names_from [] (length f.head) f.block
+  same_numbered = (names_as_productions.names (length f.head) f.block f.names).0 f.are_names
+
+  pub form_patterns : (patterns : List Pattern) → AllZip (IsPattern f.declarations f.names all) f.triples patterns → patterns_of all (names_of all) f.triples ≡ Some patterns
+  form_patterns patterns h =
+      ap (λ ts. patterns_of ts (names_of ts) f.triples) f.are
+      ∙ are_patterns f.block f.head f.tail f.brace f.declarations f.distinct f.variables f.is_head f.is_brace no_close f.limit f.offset f.is_tail known f.triples patterns
+      (subst (λ ts. AllZip (IsPattern f.declarations (names_from [] (length f.head) f.block) ts) f.triples patterns) f.are
+      (subst (λ ns. AllZip (IsPattern f.declarations ns all) f.triples patterns) same_numbered h))
+
+  pub patterns_formed : (patterns : List Pattern) → Colons all → patterns_of all (names_of all) f.triples ≡ Some patterns → AllZip (IsPattern f.declarations f.names all) f.triples patterns
+  patterns_formed patterns colons e =
+      subst (λ ns. AllZip (IsPattern f.declarations ns all) f.triples patterns) (sym same_numbered)
+      (subst (λ ts. AllZip (IsPattern f.declarations (names_from [] (length f.head) f.block) ts) f.triples patterns) (sym f.are)
+      (patterns_are f.block f.head f.tail f.brace f.declarations f.distinct f.variables f.is_head f.is_brace no_close f.limit f.offset f.is_tail known
+      (subst Colons f.are colons) f.triples patterns f.is_block
+      (ap (λ ts. patterns_of ts (names_of ts) f.triples) (sym f.are) ∙ e)))
+
+  first_prologue : all ≡ f.is_head.prologue ++ behind_prologue f.block f.head f.declarations f.distinct f.variables f.is_head (f.block ++ f.brace ∷ f.tail)
+  first_prologue = f.are ∙ prologue_first f.block f.head f.tail f.brace f.declarations f.distinct f.variables f.is_head f.is_brace no_close
+
+  no_prefix_behind : Lacks Prefix (behind_prologue f.block f.head f.declarations f.distinct f.variables f.is_head (f.block ++ f.brace ∷ f.tail))
+  no_prefix_behind = behind_lacks f.block f.head f.tail f.brace f.declarations f.distinct f.variables f.is_head f.is_brace no_close f.limit f.offset f.is_tail known
+
+  form_terms : Colons all → (i : ℕ) (t : rdf.Term) → IsTerm f.declarations (drop i all) t ↔ (term_at all i ≡ Some t)
+  form_terms colons i t =
+      let rest = behind_prologue f.block f.head f.declarations f.distinct f.variables f.is_head (f.block ++ f.brace ∷ f.tail) in
+      subst (λ ts. IsTerm f.declarations (drop i ts) t ↔ (term_at ts i ≡ Some t)) (sym first_prologue)
+      (terms_at f.is_head.prologue rest f.declarations f.is_head.is_prologue no_prefix_behind i t (all_drop i _ (subst Colons first_prologue colons)))
+
+  pub forms_as_productions : Colons all → FormsAsProductions all f
+  forms_as_productions colons = record {
+    distinct = form_distinct;
+    variables = form_variables;
+    names = form_names;
+    limit = form_limit;
+    offset = form_offset;
+    columns = λ cs. (form_columns cs, (λ e. subst (AllZip (IsColumn f.names) f.variables) (sym e) columns_formed));
+    terms = form_terms colons;
+    patterns = λ patterns. (form_patterns patterns, patterns_formed patterns colons);
+  }
+
+-- The query of tokens, by the functions and by the productions
+
+pub found_query : (all : List Lexeme) (f : HasQueryForm all) (patterns : List Pattern) → Colons all → patterns_of all (names_of all) f.triples ≡ Some patterns
+    → AreQuery all (query_by all patterns)
+found_query all f patterns colons e = record {
+  form = f;
+  distinct = sym (form_distinct all f);
+  columns = columns_formed all f;
+  labels = ap length (sym (form_names all f));
+  patterns = patterns_formed all f patterns colons e;
+  limit = sym (form_limit all f);
+  offset = sym (form_offset all f);
+}
+
+pub query_found : (all : List Lexeme) (q : Query) → AreQuery all q → q ≡ query_by all q.patterns
+query_found all q h = (λ i. record {
+  columns = form_columns all h.form q.columns h.columns i;
+  labels = (h.labels ∙ ap length (form_names all h.form)) i;
+  distinct = (h.distinct ∙ form_distinct all h.form) i;
+  patterns = q.patterns;
+  limit = (h.limit ∙ form_limit all h.form) i;
+  offset = (h.offset ∙ form_offset all h.form) i;
+})

@@ -186,6 +186,12 @@ module _ (ls ks : List Lexeme) (ds : List Declaration) (prologue : IsPrologue ls
   term_found _ _ (yes l rest s) = ap (λ t. term_from t (ls ++ ks) (l ∷ rest)) s
   term_found _ _ (no l rest s) = ap (λ t. term_from t (ls ++ ks) (l ∷ rest)) s
 
+  pub terms_at : (i : ℕ) (t : rdf.Term) → Colons (drop i (ls ++ ks)) → (IsTerm ds (drop i (ls ++ ks)) t → term_at (ls ++ ks) i ≡ Some t) × (term_at (ls ++ ks) i ≡ Some t → IsTerm ds (drop i (ls ++ ks)) t)
+  terms_at i t colons = (
+    (λ h. same_term (ls ++ ks) i ∙ term_found (drop i (ls ++ ks)) t h),
+    (λ e. found_term (drop i (ls ++ ks)) t colons (sym (same_term (ls ++ ks) i) ∙ e)),
+  )
+
   -- Places
 
   by_name : (n : ℕ) (l : Lexeme) (i : List ℕ) → MeansName ds l i → name_of l n ≡ None

@@ -4,7 +4,7 @@
 #![tactic(auto)]
 
 ghost use Rattle.query_tokens.specs.Laws.{OneKind};
-ghost use Rattle.query_forms.specs.Laws.{LexesAsProductions, MeanAsProductions, TailsAsProductions, PrefixesAsProductions, NamesAsProductions, QueriesAsProductions};
+ghost use Rattle.query_forms.specs.Laws.{LexesAsProductions, MeanAsProductions, TailsAsProductions, PrefixesAsProductions, NamesAsProductions, AllFormsAsProductions, QueriesAsProductions, AnswersAsProductions};
 
 /// No text is a token of two kinds.
 pub fn tokens_have_one_kind()
@@ -36,7 +36,13 @@ pub fn names_by_productions()
     ensures { NamesAsProductions }
 {}
 
-/// The query that is found is the one of the productions, and none is found where they have none.
+/// What is found of tokens that have the form of a query is what the productions say: columns, terms, patterns, numbers.
+pub fn forms_by_productions()
+    ensures { AllFormsAsProductions }
+{}
+
+/// The query that is found, or the first fault, is the one of the productions.
 pub fn queries_by_productions()
-    ensures { QueriesAsProductions }
+    ensures queries { QueriesAsProductions }
+    ensures answers { AnswersAsProductions }
 {}

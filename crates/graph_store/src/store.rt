@@ -101,16 +101,16 @@ impl<M: Mix> Store<M> {
         self.triples() > self.max
     }
 
-    /// Gives the tables' one hold up, and ends the store.
+    /// Ends the store. Its tables go whole: no hold is given up row by row.
     pub fn close(self) {
         let Store {
             dict: _,
-            mut ctx,
+            ctx: _,
             root,
             max: _,
         } = self;
         match root {
-            Root::Many(held) => ctx.release(held),
+            Root::Many(held) => drop(held.into_edge()),
             Root::Empty | Root::One(_) => {}
         }
     }

@@ -8,7 +8,7 @@ ghost use Rattle.graph_store.specs.State.{State, IsSettled};
 ghost use Rattle.tn_io.specs.FileFaults.{FaultCounts};
 ghost use Rattle.line_batch.specs.Seen.{answer_of};
 ghost use Rattle.line_batch.specs.Sound.{IsSound};
-ghost use Rattle.line_batch.specs.Batches.{lent_line, IsReady, MayBeScope};
+ghost use Rattle.line_batch.specs.Batches.{lent_line, IsNone, IsReady, MayBeScope};
 ghost use Rattle.line_batch.specs.Carrying.{Around, Carries};
 ghost use Rattle.tentris_core.specs.Carrying.{around};
 ghost use Rattle.tentris_core.specs.Places.{IsBlock, IsAt, IsReadyAt, CarriesLine, MeetsLine, TakesLine, Position, Outside, Inside, lines_in, effects};
@@ -113,9 +113,10 @@ fn stats<M: Mix>(store: &Store<M>) -> Answer
     Answer::Counted(store.stats())
 }
 
-// Adds the triples of a file, or takes them away.
-fn load_file<M: Mix, F: Files, W: Ledger, V: Ledger, U: Ledger>(
+// Puts the triples of a file in, or takes them away, as the empty batch says.
+fn carry_out_file<M: Mix, F: Files, W: Ledger, V: Ledger, U: Ledger>(
     alloc: Global,
+    batch: Batch,
     store: &mut Store<M>,
     files: &mut F,
     tools: &mut Tools<W, V, U>,
@@ -123,47 +124,16 @@ fn load_file<M: Mix, F: Files, W: Ledger, V: Ledger, U: Ledger>(
     name: &str,
 ) -> Answer
     requires sound { IsSound M.mixed store.old }
+    requires ready { IsReady store.old batch }
     requires few { tools.old.reader.max ≤ 1099511627776 }
     requires scope { MayBeScope scope.now }
-    ensures line { (A : Around) → A ≡ around M.mixed tools.old.sorted tools.old.reader.max (F.files files.old)
-        → CarriesLine A store.old (script.File script.Inserts scope.now name.now) store.new (answer_of result) (F.faults files.old) (F.faults files.new) }
+    ensures line { (A : Around) (change : script.Change) → A ≡ around M.mixed tools.old.sorted tools.old.reader.max (F.files files.old)
+        → IsNone store.old change batch
+        → CarriesLine A store.old (script.File change scope.now name.now) store.new (answer_of result) (F.faults files.old) (F.faults files.new) }
     ensures sorted { tools.new.sorted ≡ tools.old.sorted }
     ensures most { tools.new.reader.max ≡ tools.old.reader.max }
     ensures files { F.files files.new ≡ F.files files.old }
 {
-    let batch = Batch::inserts(alloc, store);
-    load(
-        alloc,
-        batch,
-        store,
-        files,
-        &mut tools.reader,
-        scope,
-        name,
-        &mut tools.scratch,
-        &mut tools.counts,
-    )
-}
-
-// Takes the triples of a file away.
-fn unload_file<M: Mix, F: Files, W: Ledger, V: Ledger, U: Ledger>(
-    alloc: Global,
-    store: &mut Store<M>,
-    files: &mut F,
-    tools: &mut Tools<W, V, U>,
-    scope: &str,
-    name: &str,
-) -> Answer
-    requires sound { IsSound M.mixed store.old }
-    requires few { tools.old.reader.max ≤ 1099511627776 }
-    requires scope { MayBeScope scope.now }
-    ensures line { (A : Around) → A ≡ around M.mixed tools.old.sorted tools.old.reader.max (F.files files.old)
-        → CarriesLine A store.old (script.File script.Deletes scope.now name.now) store.new (answer_of result) (F.faults files.old) (F.faults files.new) }
-    ensures sorted { tools.new.sorted ≡ tools.old.sorted }
-    ensures most { tools.new.reader.max ≡ tools.old.reader.max }
-    ensures files { F.files files.new ≡ F.files files.old }
-{
-    let batch = Batch::deletes(alloc, store);
     load(
         alloc,
         batch,
@@ -200,16 +170,18 @@ fn outside<M: Mix, F: Files, W: Ledger, V: Ledger, U: Ledger>(
         return (Place::Outside, None);
     }
     match command(bytes) {
-        Some(Command::Insert) => (begin_insert(alloc, store), None),
-        Some(Command::Delete) => (begin_delete(alloc, store), None),
+        Some(Command::Insert) => (begin(Batch::inserts(alloc, store)), None),
+        Some(Command::Delete) => (begin(Batch::deletes(alloc, store)), None),
         Some(Command::Query) => (Place::Asks(Question::new(alloc)), None),
         Some(Command::Load(scope, name)) => {
-            let answer = load_file(alloc, store, files, tools, scope, name);
-            (Place::Outside, Some(answer))
+            let inserts = Batch::inserts(alloc, store);
+            let loaded = carry_out_file(alloc, inserts, store, files, tools, scope, name);
+            (Place::Outside, Some(loaded))
         }
         Some(Command::Unload(scope, name)) => {
-            let answer = unload_file(alloc, store, files, tools, scope, name);
-            (Place::Outside, Some(answer))
+            let deletes = Batch::deletes(alloc, store);
+            let unloaded = carry_out_file(alloc, deletes, store, files, tools, scope, name);
+            (Place::Outside, Some(unloaded))
         }
         Some(Command::Generate(count, salt)) => {
             let answer = generate(
@@ -229,26 +201,11 @@ fn outside<M: Mix, F: Files, W: Ledger, V: Ledger, U: Ledger>(
     }
 }
 
-// A block of triples that are put in, without a line yet.
-fn begin_insert<M: Mix>(alloc: Global, store: &Store<M>) -> Place
-    requires { IsSettled store.now }
-    ensures { IsAt (Inside (script.Triples script.Inserts) []) store.now store.now result }
+// A block without a line yet, whose triples go as the empty batch says.
+fn begin(batch: Batch) -> Place
+    ensures { (s : State) (change : script.Change) → IsNone s change batch → IsAt (Inside (script.Triples change) []) s s result }
 {
-    Place::Inside(Block {
-        lines: 0,
-        batch: Batch::inserts(alloc, store),
-    })
-}
-
-// A block of triples that are taken out, without a line yet.
-fn begin_delete<M: Mix>(alloc: Global, store: &Store<M>) -> Place
-    requires { IsSettled store.now }
-    ensures { IsAt (Inside (script.Triples script.Deletes) []) store.now store.now result }
-{
-    Place::Inside(Block {
-        lines: 0,
-        batch: Batch::deletes(alloc, store),
-    })
+    Place::Inside(Block { lines: 0, batch })
 }
 
 // Whether a line ends its block.

@@ -46,13 +46,13 @@ returns-in-Some-Shape-clause-meets g c = λ A is.
 
 pub returns-in-Some-Insert-clause-meets : goal.returns-in-Some-Insert-clause-meets
 returns-in-Some-Insert-clause-meets g c = λ A is.
-    subst (λ o. MeetsLine A Outside (lent_line o) c.args.store.now c.args.store.now c.begin_insert.result (g.F.Files.faults c.args.files.now) (g.F.Files.faults c.args.files.now) None) (sym c.in-Some.is)
-    (meets_begin A (Some c.in-Some.bytes.now) c.args.store.now (script.Triples script.Inserts) c.begin_insert.result (g.F.Files.faults c.args.files.now) c.if-skipped.ensures (ap (λ f. Some (form_meant f)) (sym c.in-Some-Insert.field-0-is) ∙ c.in-Some-Insert.ensures) c.begin_insert.ensures)
+    subst (λ o. MeetsLine A Outside (lent_line o) c.args.store.now c.args.store.now c.begin.result (g.F.Files.faults c.args.files.now) (g.F.Files.faults c.args.files.now) None) (sym c.in-Some.is)
+    (meets_begin A (Some c.in-Some.bytes.now) c.args.store.now (script.Triples script.Inserts) c.begin.result (g.F.Files.faults c.args.files.now) c.if-skipped.ensures (ap (λ f. Some (form_meant f)) (sym c.in-Some-Insert.field-0-is) ∙ c.in-Some-Insert.ensures) (c.begin.ensures c.args.store.now script.Inserts c.inserts.ensures.none))
 
 pub returns-in-Some-Delete-clause-meets : goal.returns-in-Some-Delete-clause-meets
 returns-in-Some-Delete-clause-meets g c = λ A is.
-    subst (λ o. MeetsLine A Outside (lent_line o) c.args.store.now c.args.store.now c.begin_delete.result (g.F.Files.faults c.args.files.now) (g.F.Files.faults c.args.files.now) None) (sym c.in-Some.is)
-    (meets_begin A (Some c.in-Some.bytes.now) c.args.store.now (script.Triples script.Deletes) c.begin_delete.result (g.F.Files.faults c.args.files.now) c.if-skipped.ensures (ap (λ f. Some (form_meant f)) (sym c.in-Some-Delete.field-0-is) ∙ c.in-Some-Delete.ensures) c.begin_delete.ensures)
+    subst (λ o. MeetsLine A Outside (lent_line o) c.args.store.now c.args.store.now c.begin-in-Some-Delete.result (g.F.Files.faults c.args.files.now) (g.F.Files.faults c.args.files.now) None) (sym c.in-Some.is)
+    (meets_begin A (Some c.in-Some.bytes.now) c.args.store.now (script.Triples script.Deletes) c.begin-in-Some-Delete.result (g.F.Files.faults c.args.files.now) c.if-skipped.ensures (ap (λ f. Some (form_meant f)) (sym c.in-Some-Delete.field-0-is) ∙ c.in-Some-Delete.ensures) (c.begin-in-Some-Delete.ensures c.args.store.now script.Deletes c.deletes.ensures.none))
 
 pub returns-in-Some-Query-clause-meets : goal.returns-in-Some-Query-clause-meets
 returns-in-Some-Query-clause-meets g c = λ A is.
@@ -61,15 +61,15 @@ returns-in-Some-Query-clause-meets g c = λ A is.
 
 pub returns-in-Some-Load-clause-meets : goal.returns-in-Some-Load-clause-meets
 returns-in-Some-Load-clause-meets g c = λ A is.
-    subst (λ o. MeetsLine A Outside (lent_line o) c.args.store.now c.load_file-answer.new.store place.Outside (g.F.Files.faults c.args.files.now) (g.F.Files.faults c.load_file-answer.new.files) (Some c.load_file-answer.result)) (sym c.in-Some.is)
-    (meets_command A (Some c.in-Some.bytes.now) c.args.store.now (script.File script.Inserts c.in-Some-Load.scope.now c.in-Some-Load.name.now) c.load_file-answer.new.store c.load_file-answer.result _ _ c.if-skipped.ensures (ap (λ f. Some (form_meant f)) (sym c.in-Some-Load.field-0-is) ∙ c.in-Some-Load.ensures)
-    (c.load_file-answer.ensures.line A is))
+    subst (λ o. MeetsLine A Outside (lent_line o) c.args.store.now c.carry_out_file-loaded.new.store place.Outside (g.F.Files.faults c.args.files.now) (g.F.Files.faults c.carry_out_file-loaded.new.files) (Some c.carry_out_file-loaded.result)) (sym c.in-Some.is)
+    (meets_command A (Some c.in-Some.bytes.now) c.args.store.now (script.File script.Inserts c.in-Some-Load.scope.now c.in-Some-Load.name.now) c.carry_out_file-loaded.new.store c.carry_out_file-loaded.result _ _ c.if-skipped.ensures (ap (λ f. Some (form_meant f)) (sym c.in-Some-Load.field-0-is) ∙ c.in-Some-Load.ensures)
+    (c.carry_out_file-loaded.ensures.line A script.Inserts is c.inserts-inserts.ensures.none))
 
 pub returns-in-Some-Unload-clause-meets : goal.returns-in-Some-Unload-clause-meets
 returns-in-Some-Unload-clause-meets g c = λ A is.
-    subst (λ o. MeetsLine A Outside (lent_line o) c.args.store.now c.unload_file-answer.new.store place.Outside (g.F.Files.faults c.args.files.now) (g.F.Files.faults c.unload_file-answer.new.files) (Some c.unload_file-answer.result)) (sym c.in-Some.is)
-    (meets_command A (Some c.in-Some.bytes.now) c.args.store.now (script.File script.Deletes c.in-Some-Unload.scope.now c.in-Some-Unload.name.now) c.unload_file-answer.new.store c.unload_file-answer.result _ _ c.if-skipped.ensures (ap (λ f. Some (form_meant f)) (sym c.in-Some-Unload.field-0-is) ∙ c.in-Some-Unload.ensures)
-    (c.unload_file-answer.ensures.line A is))
+    subst (λ o. MeetsLine A Outside (lent_line o) c.args.store.now c.carry_out_file-unloaded.new.store place.Outside (g.F.Files.faults c.args.files.now) (g.F.Files.faults c.carry_out_file-unloaded.new.files) (Some c.carry_out_file-unloaded.result)) (sym c.in-Some.is)
+    (meets_command A (Some c.in-Some.bytes.now) c.args.store.now (script.File script.Deletes c.in-Some-Unload.scope.now c.in-Some-Unload.name.now) c.carry_out_file-unloaded.new.store c.carry_out_file-unloaded.result _ _ c.if-skipped.ensures (ap (λ f. Some (form_meant f)) (sym c.in-Some-Unload.field-0-is) ∙ c.in-Some-Unload.ensures)
+    (c.carry_out_file-unloaded.ensures.line A script.Deletes is c.deletes-deletes.ensures.none))
 
 pub returns-in-Some-Generate-clause-meets : goal.returns-in-Some-Generate-clause-meets
 returns-in-Some-Generate-clause-meets g c = λ A is.
@@ -77,12 +77,12 @@ returns-in-Some-Generate-clause-meets g c = λ A is.
     (meets_command A (Some c.in-Some.bytes.now) c.args.store.now (script.Generate c.in-Some-Generate.count c.in-Some-Generate.salt) c.generate-answer.new.store c.generate-answer.result _ _ c.if-skipped.ensures (ap (λ f. Some (form_meant f)) (sym c.in-Some-Generate.field-0-is) ∙ c.in-Some-Generate.ensures)
     (reads_none (g.F.Files.faults c.args.files.now) (generate_of A is c.requires.sound c.generate-answer.ensures)))
 
-pub load_file-answer-requires-clause-scope : goal.load_file-answer-requires-clause-scope
-load_file-answer-requires-clause-scope g c =
+pub carry_out_file-loaded-requires-clause-scope : goal.carry_out_file-loaded-requires-clause-scope
+carry_out_file-loaded-requires-clause-scope g c =
     form_scope (trimmed c.in-Some.bytes.now) script.Inserts c.in-Some-Load.scope.now c.in-Some-Load.name.now
     (sym (ap (λ f. Some (form_meant f)) (sym c.in-Some-Load.field-0-is) ∙ c.in-Some-Load.ensures))
 
-pub unload_file-answer-requires-clause-scope : goal.unload_file-answer-requires-clause-scope
-unload_file-answer-requires-clause-scope g c =
+pub carry_out_file-unloaded-requires-clause-scope : goal.carry_out_file-unloaded-requires-clause-scope
+carry_out_file-unloaded-requires-clause-scope g c =
     form_scope (trimmed c.in-Some.bytes.now) script.Deletes c.in-Some-Unload.scope.now c.in-Some-Unload.name.now
     (sym (ap (λ f. Some (form_meant f)) (sym c.in-Some-Unload.field-0-is) ∙ c.in-Some-Unload.ensures))

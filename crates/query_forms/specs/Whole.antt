@@ -93,12 +93,13 @@ pub record IsQueryText (text : List ℕ) (q : Query) : Type 0 where
   pub few_columns : HasFewColumns q
   pub small_numbers : HasSmallNumbers q
 
--- The text is a query, or this is its first fault: it has not the form of one, it has an undeclared prefix, or the query is
--- outside the bounds.
+-- The text is a query, or this is its first fault: it has not the form of one, it has an undeclared prefix, or the
+-- query is outside the bounds.
 abbrev pub HasAnswer : List ℕ → Answer → Type 0
 HasAnswer text NotQuery = IsQueryLike text → ⊥
 HasAnswer text NoPrefix = (like : IsQueryLike text) × HasUndeclared like.tokens like.form
 HasAnswer text TooManyPatterns = (q : Query) × IsUnbounded text q × (HasFewPatterns q → ⊥)
 HasAnswer text TooManyColumns = (q : Query) × IsUnbounded text q × HasFewPatterns q × (HasFewColumns q → ⊥)
-HasAnswer text TooLarge = (q : Query) × IsUnbounded text q × HasFewPatterns q × HasFewColumns q × (HasSmallNumbers q → ⊥)
+HasAnswer text TooLarge =
+    (q : Query) × IsUnbounded text q × HasFewPatterns q × HasFewColumns q × (HasSmallNumbers q → ⊥)
 HasAnswer text (IsQuery q) = IsQueryText text q

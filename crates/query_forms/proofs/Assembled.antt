@@ -243,24 +243,24 @@ module _ (all : List Lexeme) (f : HasQueryForm all) where
       ap (λ ts. triples_of (parts_from (place_of OpenBrace ts + 1) (block_of ts))) f.are
       ∙ parts_found f.block f.head f.tail f.brace f.declarations f.distinct f.variables f.is_head f.is_brace no_close f.triples f.is_block
 
-  pub form_limit : f.limit ≡ number_behind Limit all
+  form_limit : f.limit ≡ number_behind Limit all
   form_limit = numbers.1 ∙ ap (number_behind Limit) (sym f.are)
 
-  pub form_offset : f.offset ≡ or_zero (number_behind Offset all)
+  form_offset : f.offset ≡ or_zero (number_behind Offset all)
   form_offset = numbers.2 ∙ ap (λ ts. or_zero (number_behind Offset ts)) (sym f.are)
 
-  pub form_distinct : f.distinct ≡ has_sign Distinct all
+  form_distinct : f.distinct ≡ has_sign Distinct all
   form_distinct =
       sym (distinct_found f.block f.head f.tail f.brace f.declarations f.distinct f.variables f.is_head f.is_brace no_close f.limit f.offset f.is_tail known)
       ∙ ap (has_sign Distinct) (sym f.are)
 
-  pub form_names : f.names ≡ names_of all
+  form_names : f.names ≡ names_of all
   form_names =
       (names_as_productions.names (length f.head) f.block f.names).0 f.are_names
       ∙ (sym (names_is f.block f.head f.tail f.brace f.declarations f.distinct f.variables f.is_head f.is_brace no_close)
       ∙ ap names_of (sym f.are))
 
-  pub form_variables : f.variables ≡ selected all
+  form_variables : f.variables ≡ selected all
   form_variables =
       sym (selected_are f.block f.head f.tail f.brace f.declarations f.distinct f.variables f.is_head f.is_brace no_close)
       ∙ ap selected (sym f.are)
@@ -268,10 +268,10 @@ module _ (all : List Lexeme) (f : HasQueryForm all) where
   form_apart : AllDistinct f.names
   form_apart = distinct_once f.are_names.all f.names f.are_names.once
 
-  pub form_columns : (cs : List Column) → AllZip (IsColumn f.names) f.variables cs → cs ≡ map (column_of (names_of all)) (selected all)
+  form_columns : (cs : List Column) → AllZip (IsColumn f.names) f.variables cs → cs ≡ map (column_of (names_of all)) (selected all)
   form_columns cs columns = columns_found f.names form_apart f.variables cs columns ∙ (λ i. map (column_of (form_names i)) (form_variables i))
 
-  pub columns_formed : AllZip (IsColumn f.names) f.variables (map (column_of (names_of all)) (selected all))
+  columns_formed : AllZip (IsColumn f.names) f.variables (map (column_of (names_of all)) (selected all))
   columns_formed = subst (AllZip (IsColumn f.names) f.variables) (λ i. map (column_of (form_names i)) (form_variables i))
       (found_columns f.names form_apart f.variables (selection_variables f.block f.is_head.selection f.variables f.is_head.is_selection))
 

@@ -205,7 +205,7 @@ module _ (Is : ℕ → Type 0) where
       both_are ps qs (props_in i ts ps p (is i (inl (refl, refl))) (λ k e. is k (inr (in_front k ts (part Close j ∷ us) e))))
       (props_in i us qs q (is i (inl (refl, refl))) (λ k e. is k (inr (in_back k ts (part Close j ∷ us) (inr e)))))
 
-  pub block_in : (ts : List Part) (ps : List Triple) → IsBlock ts ps → Holds ts → Are ps
+  block_in : (ts : List Part) (ps : List Triple) → IsBlock ts ps → Holds ts → Are ps
   block_in _ _ nothing is = tt
   block_in _ _ (one ts ps h) is = same_in ts ps h is
   block_in _ _ (more i ts us ps qs h b) is =

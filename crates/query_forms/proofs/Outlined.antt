@@ -36,7 +36,7 @@ from_select = sign Select ▸ from_modifier
 
 -- from the brackets that a list has to those of its parts
 module _ (prologue modifier selection word rest : List Lexeme) (select : Lexeme) where
-  pub regrouped_head : (prologue ++ select ∷ (modifier ++ (selection ++ word))) ++ rest ≡ prologue ++ select ∷ (modifier ++ (selection ++ (word ++ rest)))
+  regrouped_head : (prologue ++ select ∷ (modifier ++ (selection ++ word))) ++ rest ≡ prologue ++ select ∷ (modifier ++ (selection ++ (word ++ rest)))
   regrouped_head =
       append_assoc prologue (select ∷ (modifier ++ (selection ++ word))) rest
       ∙ ap (λ k. prologue ++ select ∷ k) (append_assoc modifier (selection ++ word) rest ∙ ap (λ k. modifier ++ k) (append_assoc selection word rest))

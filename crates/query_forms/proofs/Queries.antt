@@ -29,7 +29,7 @@ use Rattle.query_forms.proofs.Outlined.{whole, IsOutlined, outlined}
 use Rattle.query_forms.proofs.Placed.{Colons}
 use Rattle.query_forms.proofs.Prefixed.{token_colon}
 use Rattle.query_forms.proofs.Undeclared.{undeclared_none, none_undeclared}
-use Rattle.query_forms.proofs.Signed.{each_of, lacks_other, clash}
+use Rattle.query_forms.proofs.Signed.{each_of, lacks_other, clash, neither}
 
 -- Tokens that mean something
 
@@ -80,10 +80,6 @@ at_most m n e = grind (arith, nat_tests)
 
 is_at_most : (m n : ℕ) → n ≤ m → nat_lt m n ≡ false
 is_at_most m n e = grind (arith, nat_tests)
-
-neither : (a b : Bool) → (a || b) ≡ false → (a ≡ false) × (b ≡ false)
-neither true b e = absurd (clash e)
-neither false b e = (refl, e)
 
 -- what refutes the one answer of a test gives the other
 decided_true : (b : Bool) → (b ≡ false → ⊥) → b ≡ true

@@ -260,6 +260,12 @@ module _ (all : List Lexeme) (f : HasQueryForm all) where
     below : (a b : ℕ) → nat_lt a b ≡ true → a < b
     below a b t = grind (arith, nat_tests)
 
+    token_meant : (k : ℕ) → k < length f.block → Meant (at all (length f.head + k))
+    token_meant k low = subst Meant (sym (at_block k low)) (all_at (λ l. Meant l) f.block k low meant)
+
+    name_meant : (k : ℕ) → k < length f.block → role_of (sign_of (at f.block k)) ≡ role.Name → (iri : List ℕ) × (name_iri all (at all (length f.head + k)) ≡ Some iri)
+    name_meant k low is = token_meant k low (ap (λ l. is_named (sign_of l)) (at_block k low) ∙ role_named (sign_of (at f.block k)) is)
+
     -- the datatype behind a text and '^^'
     datatype_there : (k : ℕ) → k < length f.block → sign_of (at all (length f.head + k + 1)) ≡ Carets → (iri : List ℕ) × (name_iri all (at all (length f.head + k + 2)) ≡ Some iri)
     datatype_there k low e = by (nat_lt (k + 1) (length f.block)) refl where
@@ -274,9 +280,7 @@ module _ (all : List Lexeme) (f : HasQueryForm all) where
           let name = followed_at (length f.head) f.block (k + 1) (block_followed (parts_from (length f.head) f.block) f.triples f.is_block) low_next
           (ap (λ l. role_of (sign_of l)) (sym next) ∙ ap role_of e) in
           let place_two : length f.head + k + 2 ≡ length f.head + (k + 1 + 1) = omega arith in
-          let second : at all (length f.head + k + 2) ≡ at f.block (k + 1 + 1) = ap (at all) place_two ∙ at_block (k + 1 + 1) name.0 in
-          let m = all_at (λ l. Meant l) f.block (k + 1 + 1) name.0 meant (role_named (sign_of (at f.block (k + 1 + 1))) name.1) in
-          (m.0, ap (name_iri all) second ∙ m.1)
+          subst (λ j. (iri : List ℕ) × (name_iri all (at all j) ≡ Some iri)) (sym place_two) (name_meant (k + 1 + 1) name.0 name.1)
 
     kind_there : (k : ℕ) → k < length f.block → (kind : rdf.Kind) × (kind_by (sign_of (at all (length f.head + k + 1))) all (length f.head + k) ≡ Some kind)
     kind_there k low = by (sign_of (at all (length f.head + k + 1))) refl where
@@ -284,9 +288,6 @@ module _ (all : List Lexeme) (f : HasQueryForm all) where
       by Carets e = let d = datatype_there k low e in (rdf.Typed d.0, ap (option_map rdf.Typed) d.1)
       by LangTag e = (_, refl)
       by _ e = (_, refl)
-
-    token_meant : (k : ℕ) → k < length f.block → Meant (at all (length f.head + k))
-    token_meant k low = subst Meant (sym (at_block k low)) (all_at (λ l. Meant l) f.block k low meant)
 
     token_sound : (k : ℕ) → k < length f.block → MeansSome (sign_of (at all (length f.head + k))) (at all (length f.head + k)).text
     token_sound k low = subst (λ (l : Lexeme). MeansSome (sign_of l) l.text) (sym (at_block k low)) (all_at (λ (l : Lexeme). MeansSome (sign_of l) l.text) f.block k low sound)

@@ -13,7 +13,7 @@ use Rattle.query_tokens.specs.Laws.{OneKind}
 use Rattle.query_tokens.specs.Tokens.{Kind, Iri, PnameNs, PnameLn, Label, Var, LangTag, Integer, Decimal, Double, SignedInteger, SignedDecimal, SignedDouble, Str, Word, Mark, pn_prefix, pn_local, form_of, kinds, IsToken}
 use Rattle.query_tokens.proofs.Behind.{has_optional}
 use Rattle.query_forms.proofs.Blocks.{all_both}
-use Rattle.query_forms.proofs.Signed.{clash}
+use Rattle.query_forms.proofs.Signed.{clash, same_number}
 
 abbrev Ranges : Type 0
 Ranges = List (ℕ × ℕ)
@@ -279,9 +279,6 @@ numbered : (k : Kind) → kind_at (number_of k) ≡ k
 unfolding kind_at
 numbered Iri = refl
 numbered _ = refl
-
-same_number : (m n : ℕ) → (m == n) ≡ true → m ≡ n
-same_number m n e = grind (arith, nat_tests)
 
 same_kind : (j k : Kind) → (number_of j == number_of k) ≡ true → j ≡ k
 same_kind j k e = sym (numbered j) ∙ ap kind_at (same_number (number_of j) (number_of k) e) ∙ numbered k

@@ -11,13 +11,14 @@ use Rattle.query_grammar.specs.Lexemes.{Lexeme}
 use Rattle.query_grammar.specs.Meaning.{Name, Column, Query, Pattern, no_lexeme, at, is_sign, same_name, name_of, with_name, with_some, place_of, has_sign, block_of, parts_from, names_from, names_of, term_at, patterns_of, selected, column_of, number_behind, or_zero, query_by}
 use Rattle.query_grammar.specs.Outline.{limits, HasOutline}
 use Rattle.query_grammar.specs.Signs.{Sign, Prefix, Distinct, Limit, Offset, OpenBrace, CloseBrace, sign_of, role_of}
+use Rattle.query_grammar.specs.Texts.{name_iri}
 use Rattle.query_grammar.proofs.Complete.{block_found}
 use Rattle.query_grammar.proofs.Sound.{block_meant}
 use Rattle.query_forms.specs.Heads.{IsHead, IsColumn}
 use Rattle.query_forms.specs.Laws.{Lacks, FormsAsProductions}
 use Rattle.query_forms.specs.Naming.{IsName, AreNames}
 use Rattle.query_forms.specs.Patterns.{IsTerm, IsPattern}
-use Rattle.query_forms.specs.Prologues.{Declaration}
+use Rattle.query_forms.specs.Prologues.{Declaration, MeansName}
 use Rattle.query_forms.specs.Tails.{IsTail}
 use Rattle.query_forms.specs.Whole.{HasQueryForm, AreQuery}
 use Rattle.query_forms.proofs.Blocks.{is_known, InBlock, block_tokens, Within, triples_within}
@@ -25,6 +26,7 @@ use Rattle.query_forms.proofs.Limits.{tails_as_productions}
 use Rattle.query_forms.proofs.Named.{among, Distinct as AllDistinct, distinct_once, is_same, names_as_productions}
 use Rattle.query_forms.proofs.Outlined.{whole, has_outline_of}
 use Rattle.query_forms.proofs.Placed.{terms_at, Colons, Ready, at_place, patterns_found, found_patterns}
+use Rattle.query_forms.proofs.Prefixed.{name_found}
 use Rattle.query_forms.proofs.Selected.{in_tail, tail_only, head_lacks, behind_prologue, no_prefix, distinct_is, names_are, parts_are, selected_are, selection_variables, columns_found, found_columns}
 use Rattle.query_forms.proofs.Signed.{at_past, lacks_both, lacks_other, is_it, Fits}
 
@@ -87,7 +89,7 @@ module _ (block head tail : List Lexeme) (brace : Lexeme) (ds : List Declaration
       sym (at_place tokens (length head + k)) ∙ (at_past head (block ++ brace ∷ tail) k ∙ get_or_append_left block (brace ∷ tail) no_lexeme k low)
 
   named : (i : ℕ) → Within (length head) block i → (n : Name) → name_of (at (drop i tokens) 0) i ≡ Some n → among numbered n ≡ true
-  named i (k, low, is) n e =
+  named i (k, low, is, _) n e =
       has_name [] (length head) block k n low
       (ap (λ l. name_of l (length head + k)) (sym (at_block k low)) ∙ (ap (λ j. name_of (at (drop j tokens) 0) j) (sym is) ∙ e))
 
@@ -241,24 +243,24 @@ module _ (all : List Lexeme) (f : HasQueryForm all) where
       ap (λ ts. triples_of (parts_from (place_of OpenBrace ts + 1) (block_of ts))) f.are
       ∙ parts_found f.block f.head f.tail f.brace f.declarations f.distinct f.variables f.is_head f.is_brace no_close f.triples f.is_block
 
-  pub form_limit : f.limit ≡ number_behind Limit all
+  form_limit : f.limit ≡ number_behind Limit all
   form_limit = numbers.1 ∙ ap (number_behind Limit) (sym f.are)
 
-  pub form_offset : f.offset ≡ or_zero (number_behind Offset all)
+  form_offset : f.offset ≡ or_zero (number_behind Offset all)
   form_offset = numbers.2 ∙ ap (λ ts. or_zero (number_behind Offset ts)) (sym f.are)
 
-  pub form_distinct : f.distinct ≡ has_sign Distinct all
+  form_distinct : f.distinct ≡ has_sign Distinct all
   form_distinct =
       sym (distinct_found f.block f.head f.tail f.brace f.declarations f.distinct f.variables f.is_head f.is_brace no_close f.limit f.offset f.is_tail known)
       ∙ ap (has_sign Distinct) (sym f.are)
 
-  pub form_names : f.names ≡ names_of all
+  form_names : f.names ≡ names_of all
   form_names =
       (names_as_productions.names (length f.head) f.block f.names).0 f.are_names
       ∙ (sym (names_is f.block f.head f.tail f.brace f.declarations f.distinct f.variables f.is_head f.is_brace no_close)
       ∙ ap names_of (sym f.are))
 
-  pub form_variables : f.variables ≡ selected all
+  form_variables : f.variables ≡ selected all
   form_variables =
       sym (selected_are f.block f.head f.tail f.brace f.declarations f.distinct f.variables f.is_head f.is_brace no_close)
       ∙ ap selected (sym f.are)
@@ -266,10 +268,10 @@ module _ (all : List Lexeme) (f : HasQueryForm all) where
   form_apart : AllDistinct f.names
   form_apart = distinct_once f.are_names.all f.names f.are_names.once
 
-  pub form_columns : (cs : List Column) → AllZip (IsColumn f.names) f.variables cs → cs ≡ map (column_of (names_of all)) (selected all)
+  form_columns : (cs : List Column) → AllZip (IsColumn f.names) f.variables cs → cs ≡ map (column_of (names_of all)) (selected all)
   form_columns cs columns = columns_found f.names form_apart f.variables cs columns ∙ (λ i. map (column_of (form_names i)) (form_variables i))
 
-  pub columns_formed : AllZip (IsColumn f.names) f.variables (map (column_of (names_of all)) (selected all))
+  columns_formed : AllZip (IsColumn f.names) f.variables (map (column_of (names_of all)) (selected all))
   columns_formed = subst (AllZip (IsColumn f.names) f.variables) (λ i. map (column_of (form_names i)) (form_variables i))
       (found_columns f.names form_apart f.variables (selection_variables f.block f.is_head.selection f.variables f.is_head.is_selection))
 
@@ -296,6 +298,11 @@ module _ (all : List Lexeme) (f : HasQueryForm all) where
 
   no_prefix_behind : Lacks Prefix (behind_prologue f.block f.head f.declarations f.distinct f.variables f.is_head (f.block ++ f.brace ∷ f.tail))
   no_prefix_behind = behind_lacks f.block f.head f.tail f.brace f.declarations f.distinct f.variables f.is_head f.is_brace no_close f.limit f.offset f.is_tail known
+
+  pub form_name : (l : Lexeme) (i : List ℕ) → MeansName f.declarations l i → name_iri all l ≡ Some i
+  form_name l i h =
+      ap (λ ts. name_iri ts l) first_prologue
+      ∙ name_found f.is_head.prologue (behind_prologue f.block f.head f.declarations f.distinct f.variables f.is_head (f.block ++ f.brace ∷ f.tail)) f.declarations f.is_head.is_prologue no_prefix_behind l i h
 
   form_terms : Colons all → (i : ℕ) (t : rdf.Term) → IsTerm f.declarations (drop i all) t ↔ (term_at all i ≡ Some t)
   form_terms colons i t =

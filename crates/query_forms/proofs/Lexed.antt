@@ -102,12 +102,6 @@ module _ (cs : List ℕ) (kind : Kind) (n : ℕ) (is : token_at cs ≡ Some (kin
         inside : (p : Kind × ℕ) → (let o : Option (Kind × ℕ) = Some p in o) ≡ Some (kind, n) → p ≡ (kind, n)
         inside p e = cc
 
-  token_some : 0 < n
-  token_some = by n refl where
-    by : (m : ℕ) → n ≡ m → 0 < n
-    by zero e = absurd (none_empty kind (subst (λ m. IsToken kind (take m cs)) e (finds_tokens.found cs kind n is).1))
-    by (suc m) e = omega (arith, e)
-
 token_found : (token rest : List ℕ) (kind : Kind) → IsLongest IsSomeToken token rest → IsToken kind token → token_at (token ++ rest) ≡ Some (kind, length token)
 token_found token rest kind h of_kind =
     let l = finds_tokens.longest h.is.0 token rest h.is.1 in

@@ -1,6 +1,7 @@
 pub mod Apart
 pub mod Assembled
 pub mod Blocks
+pub mod Covered
 pub mod Headed
 pub mod Lexed
 pub mod Limits
@@ -12,3 +13,4 @@ pub mod Prefixed
 pub mod Queries
 pub mod Selected
 pub mod Signed
+pub mod Undeclared

@@ -12,10 +12,10 @@ use Rattle.query_forms.proofs.Signed.{number_past, number_none, number_here, num
 -- What a clause says
 
 module _ (word : Sign) where
-  pub clause_fits : (ls : List Lexeme) (n : ℕ) → IsClause word ls n → Fits (sign word ▸ sign Integer) ls
+  clause_fits : (ls : List Lexeme) (n : ℕ) → IsClause word ls n → Fits (sign word ▸ sign Integer) ls
   clause_fits _ _ (clause first second f s) = together (sign word) (sign Integer) (first ∷ []) (second ∷ []) (fits_one word first f) (fits_one Integer second s)
 
-  pub fits_clause : (ls : List Lexeme) → Fits (sign word ▸ sign Integer) ls → (n : ℕ) × IsClause word ls n
+  fits_clause : (ls : List Lexeme) → Fits (sign word ▸ sign Integer) ls → (n : ℕ) × IsClause word ls n
   fits_clause ls h =
       let p = parted (sign word) (sign Integer) ls h in
       let a = one_token word p.first p.fits_first in
@@ -23,10 +23,10 @@ module _ (word : Sign) where
       let are : ls ≡ a.token ∷ b.token ∷ [] = p.are ∙ (λ i. a.are i ++ b.are i) in
       (value_of b.token.text, subst (λ ks. IsClause word ks (value_of b.token.text)) (sym are) (clause a.token b.token a.is b.is))
 
-  pub clause_number : (ls ks : List Lexeme) (n : ℕ) → IsClause word ls n → number_behind word (ls ++ ks) ≡ Some n
+  clause_number : (ls ks : List Lexeme) (n : ℕ) → IsClause word ls n → number_behind word (ls ++ ks) ≡ Some n
   clause_number _ ks _ (clause first second f s) = number_here word first second ks f
 
-  pub clause_lacks : (other : Sign) (ls : List Lexeme) (n : ℕ) → (word ≡ other → ⊥) → (Integer ≡ other → ⊥) → IsClause word ls n → Lacks other ls
+  clause_lacks : (other : Sign) (ls : List Lexeme) (n : ℕ) → (word ≡ other → ⊥) → (Integer ≡ other → ⊥) → IsClause word ls n → Lacks other ls
   clause_lacks other _ _ differs number (clause first second f s) = ((λ e. differs (sym f ∙ e)), ((λ e. number (sym s ∙ e)), tt))
 
 limit_offset_differ : Limit ≡ Offset → ⊥

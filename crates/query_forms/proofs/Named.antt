@@ -12,6 +12,7 @@ use Rattle.query_grammar.specs.Meaning.{Name, VariableName, LabelName, Fresh, sa
 use Rattle.query_grammar.specs.Signs.{Sign, Variable, Label, Open, sign_of}
 use Rattle.query_grammar.specs.Texts.{behind_first}
 use Rattle.query_forms.specs.Laws.{NamesAsProductions}
+use Rattle.query_forms.proofs.Signed.{clash, neither}
 use Rattle.query_forms.specs.Naming.{IsName, variable, label, bracket, IsVariable, Mentions, nothing, name, other, IsEachOnce, new, again, AreNames}
 
 -- Equal names
@@ -23,7 +24,7 @@ same_itself (Fresh i) = itself i where
   itself : (i : ℕ) → (i == i) ≡ true
   itself i = grind (arith, nat_tests)
 
-pub same_is : (m n : Name) → same_name m n ≡ true → m ≡ n
+same_is : (m n : Name) → same_name m n ≡ true → m ≡ n
 same_is (VariableName a) (VariableName b) h = ap VariableName ((bytes_eq-Decides a b).0 h)
 same_is (LabelName a) (LabelName b) h = ap LabelName ((bytes_eq-Decides a b).0 h)
 same_is (Fresh i) (Fresh j) h = ap Fresh (number i j h) where
@@ -34,13 +35,10 @@ same_is _ _ h = absurd (let f : ⊥ = cc in f)
 pub is_same : (m n : Name) → m ≡ n → same_name m n ≡ true
 is_same m n e = ap (same_name m) (sym e) ∙ same_itself m
 
-contradiction : true ≡ false → ⊥
-contradiction e = let f : ⊥ = cc in f
-
 abbrev pub among : List Name → Name → Bool
 among names n = list_any (same_name n) names
 
-pub among_contains : (names : List Name) (n : Name) → among names n ≡ true → Contains names n
+among_contains : (names : List Name) (n : Name) → among names n ≡ true → Contains names n
 among_contains [] n h = absurd (let f : ⊥ = cc in f)
 among_contains (m ∷ names) n h = by (same_name n m) refl h (among_contains names n) where
   by : (b : Bool) → same_name n m ≡ b → (b || list_any (same_name n) names) ≡ true → (list_any (same_name n) names ≡ true → Contains names n) → Contains (m ∷ names) n
@@ -72,7 +70,7 @@ with_old names n h = ap (λ b. cond b names (names ++ n ∷ [])) h
 with_new : (names : List Name) (n : Name) → among names n ≡ false → with_name names n ≡ names ++ n ∷ []
 with_new names n h = ap (λ b. cond b names (names ++ n ∷ [])) h
 
-pub once_is : (all once : List Name) → IsEachOnce all once → once ≡ once_all all
+once_is : (all once : List Name) → IsEachOnce all once → once ≡ once_all all
 once_is _ _ nothing = refl
 once_is _ _ (new all once n h absent) =
     sym (fold-append with_name [] all (n ∷ []) ∙ (ap (λ names. with_name names n) (sym (once_is all once h)) ∙ with_new once n (not_among once n absent)))
@@ -86,7 +84,7 @@ once_more all once (n ∷ more) h =
     (once_more (all ++ n ∷ []) (with_name once n) more (by (among once n) refl)) where
       by : (b : Bool) → among once n ≡ b → IsEachOnce (all ++ n ∷ []) (with_name once n)
       by true e = subst (IsEachOnce (all ++ n ∷ [])) (sym (with_old once n e)) (again all once n h (among_contains once n e))
-      by false e = subst (IsEachOnce (all ++ n ∷ [])) (sym (with_new once n e)) (new all once n h (λ c. contradiction (sym (contains_among once n c) ∙ e)))
+      by false e = subst (IsEachOnce (all ++ n ∷ [])) (sym (with_new once n e)) (new all once n h (λ c. clash (sym (contains_among once n c) ∙ e)))
 
 is_once : (all : List Name) → IsEachOnce all (once_all all)
 is_once all = once_more [] [] all nothing
@@ -123,7 +121,7 @@ module _ (Is : ℕ → Lexeme → Name → Type 0) (find : ℕ → Lexeme → Op
     by None e more = other i l ls (all_found find (i + 1) ls) (λ n is. none_some n (sym e ∙ complete i l n is)) more
     by (Some n) e more = name i l n ls (all_found find (i + 1) ls) (sound i l n e) more
 
-  pub names_only : (i : ℕ) (ls : List Lexeme) (names : List Name) → AreNames Is i ls names → names ≡ once_all (all_found find i ls)
+  names_only : (i : ℕ) (ls : List Lexeme) (names : List Name) → AreNames Is i ls names → names ≡ once_all (all_found find i ls)
   names_only i ls names h = once_is h.all names h.once ∙ ap once_all (all_mentioned i ls h.all h.mentions)
 
   pub are_names : (i : ℕ) (ls : List Lexeme) → AreNames Is i ls (once_all (all_found find i ls))
@@ -228,10 +226,6 @@ abbrev pub Distinct : List Name → Type 0
 Distinct [] = Unit {0}
 Distinct (n ∷ names) = (among names n ≡ false) × Distinct names
 
-neither : (a b : Bool) → (a || b) ≡ false → (a ≡ false) × (b ≡ false)
-neither true b e = absurd (contradiction e)
-neither false b e = (refl, e)
-
 different : (m n : Name) → (m ≡ n → ⊥) → same_name m n ≡ false
 different m n h = by (same_name m n) refl where
   by : (b : Bool) → same_name m n ≡ b → same_name m n ≡ false
@@ -242,7 +236,7 @@ distinct_push : (names : List Name) (n : Name) → Distinct names → among name
 distinct_push [] n d h = (refl, tt)
 distinct_push (m ∷ names) n d h =
     let both = neither (same_name n m) (among names n) h in
-    let apart : same_name m n ≡ false = different m n (λ e. contradiction (sym (is_same n m (sym e)) ∙ both.0)) in (
+    let apart : same_name m n ≡ false = different m n (λ e. clash (sym (is_same n m (sym e)) ∙ both.0)) in (
       list_any-append (same_name m) names (n ∷ []) ∙ ((λ i. d.0 i || (apart i || false))),
       distinct_push names n d.1 both.1,
     )
@@ -256,7 +250,7 @@ one_and : (n : ℕ) → 1 + n ≡ suc n
 one_and n = omega arith
 
 pub number_found : (names : List Name) (n : Name) → among names n ≡ true → slice_get names (number_among names n) ≡ Some n
-number_found [] n h = absurd (contradiction (sym h))
+number_found [] n h = absurd (clash (sym h))
 number_found (m ∷ names) n h = by (same_name n m) refl h (number_found names n) where
   by : (b : Bool) → same_name n m ≡ b → (b || among names n) ≡ true → (among names n ≡ true → slice_get names (number_among names n) ≡ Some n)
       → slice_get (m ∷ names) (cond (not b) (1 + number_among names n) 0) ≡ Some n
@@ -275,5 +269,5 @@ pub number_only : (names : List Name) (i : ℕ) (n : Name) → Distinct names �
 number_only [] i n d e = absurd (none_some n e)
 number_only (m ∷ names) zero n d e = ap (λ b. cond (not b) (1 + number_among names n) 0) (is_same n m (let same : n ≡ m = cc in same))
 number_only (m ∷ names) (suc i) n d e =
-    let apart : same_name n m ≡ false = different n m (λ same. contradiction (sym (place_among names i n e) ∙ (ap (among names) same ∙ d.0))) in
+    let apart : same_name n m ≡ false = different n m (λ same. clash (sym (place_among names i n e) ∙ (ap (among names) same ∙ d.0))) in
     ap (λ b. cond (not b) (1 + number_among names n) 0) apart ∙ (ap (λ k. 1 + k) (number_only names i n d.1 e) ∙ one_and i)

@@ -10,8 +10,8 @@ use Rattle.query_forms.specs.Heads.{IsModifier, IsSelection, IsWhere, IsHead}
 use Rattle.query_forms.specs.Laws.{Lacks}
 use Rattle.query_forms.specs.Prologues.{Declaration}
 use Rattle.query_forms.proofs.Blocks.{InBlock}
-use Rattle.query_forms.proofs.Headed.{each_prefix, modifier_from, modifier_fits, selection_from, selection_fits, where_from, where_fits, in_braces, inside_each, each_inside}
-use Rattle.query_forms.proofs.Signed.{place_past, place_here, Fits, parted, together, one_token, fits_one, each_of, of_each, Only}
+use Rattle.query_forms.proofs.Headed.{each_prefix, modifier_from, modifier_fits, HasSelection, selection_from, selection_fits, where_from, where_fits, in_braces, inside_each, each_inside}
+use Rattle.query_forms.proofs.Signed.{place_past, place_here, Fits, Joined, parted, together, one_token, fits_one, each_of, of_each, Only}
 
 abbrev closing : Form
 closing = sign CloseBrace ▸ limits
@@ -36,7 +36,7 @@ from_select = sign Select ▸ from_modifier
 
 -- from the brackets that a list has to those of its parts
 module _ (prologue modifier selection word rest : List Lexeme) (select : Lexeme) where
-  pub regrouped_head : (prologue ++ select ∷ (modifier ++ (selection ++ word))) ++ rest ≡ prologue ++ select ∷ (modifier ++ (selection ++ (word ++ rest)))
+  regrouped_head : (prologue ++ select ∷ (modifier ++ (selection ++ word))) ++ rest ≡ prologue ++ select ∷ (modifier ++ (selection ++ (word ++ rest)))
   regrouped_head =
       append_assoc prologue (select ∷ (modifier ++ (selection ++ word))) rest
       ∙ ap (λ k. prologue ++ select ∷ k) (append_assoc modifier (selection ++ word) rest ∙ ap (λ k. modifier ++ k) (append_assoc selection word rest))
@@ -65,49 +65,114 @@ pub record IsOutlined (tokens : List Lexeme) : Type 0 where
   pub is_close : sign_of close_brace ≡ CloseBrace
   pub is_tail : Fits limits tail
 
-pub outlined : (tokens : List Lexeme) → HasOutline (map sign_of tokens) → IsOutlined tokens
-outlined tokens h =
-    let a = parted (many prefix) from_select tokens h in
-    let b = parted (sign Select) from_modifier a.second a.fits_second in
-    let c = parted (maybe (sign Distinct ∣ sign Reduced)) from_selection b.second b.fits_second in
-    let d = parted (some (sign Variable) ∣ sign Star) from_where c.second c.fits_second in
-    let e = parted (maybe (sign Where)) from_brace d.second d.fits_second in
-    let f = parted (sign OpenBrace) from_block e.second e.fits_second in
-    let g = parted (many inside) closing f.second f.fits_second in
-    let k = parted (sign CloseBrace) limits g.second g.fits_second in
-    let select = one_token Select b.first b.fits_first in
-    let modifier = modifier_from c.first c.fits_first in
-    let selection = selection_from g.first d.first d.fits_first in
+-- from the brace that opens the block on
+record IsOpened (ls : List Lexeme) : Type 0 where
+  open_brace : Lexeme
+  block : List Lexeme
+  close_brace : Lexeme
+  tail : List Lexeme
+  are : ls ≡ open_brace ∷ (block ++ close_brace ∷ tail)
+  is_open : sign_of open_brace ≡ OpenBrace
+  is_block : Only in_braces block
+  is_close : sign_of close_brace ≡ CloseBrace
+  is_tail : Fits limits tail
+
+opened : (open_brace : Lexeme) (ls : List Lexeme) → sign_of open_brace ≡ OpenBrace → Joined (many inside) closing ls → IsOpened (open_brace ∷ ls)
+opened open_brace ls opens g = by (parted (sign CloseBrace) limits g.second g.fits_second) where
+  by : Joined (sign CloseBrace) limits g.second → IsOpened (open_brace ∷ ls)
+  by k =
+      let close_brace = one_token CloseBrace k.first k.fits_first in
+      record {
+        open_brace = open_brace;
+        block = g.first;
+        close_brace = close_brace.token;
+        tail = k.second;
+        are = ap (λ x. open_brace ∷ x) g.are ∙ ap (λ x. open_brace ∷ (g.first ++ x)) (k.are ∙ ap (λ x. x ++ k.second) close_brace.are);
+        is_open = opens;
+        is_block = each_inside g.first (each_of inside g.first g.fits_first);
+        is_close = close_brace.is;
+        is_tail = k.fits_second;
+      }
+
+opened_from : (ls : List Lexeme) → Joined (sign OpenBrace) from_block ls → IsOpened ls
+opened_from ls f =
     let open_brace = one_token OpenBrace f.first f.fits_first in
-    let close_brace = one_token CloseBrace k.first k.fits_first in
-    let closed : g.second ≡ close_brace.token ∷ k.second = k.are ∙ ap (λ x. x ++ k.second) close_brace.are in
-    let opened : e.second ≡ open_brace.token ∷ (g.first ++ close_brace.token ∷ k.second) =
-    f.are ∙ (λ i. open_brace.are i ++ (g.are ∙ ap (λ x. g.first ++ x) closed) i) in
-    let selecting : b.second ≡ c.first ++ (d.first ++ (e.first ++ open_brace.token ∷ (g.first ++ close_brace.token ∷ k.second))) =
-    c.are ∙ ap (λ x. c.first ++ x) (d.are ∙ ap (λ x. d.first ++ x) (e.are ∙ ap (λ x. e.first ++ x) opened)) in
-    record {
-      prologue = a.first;
-      select = select.token;
-      modifier = c.first;
-      selection = d.first;
-      word = e.first;
-      open_brace = open_brace.token;
-      block = g.first;
-      close_brace = close_brace.token;
-      tail = k.second;
-      are = a.are ∙ ap (λ x. a.first ++ x) (b.are ∙ (λ i. select.are i ++ selecting i));
-      is_prologue = a.fits_first;
-      is_select = select.is;
-      distinct = modifier.0;
-      is_modifier = modifier.1;
-      variables = selection.names;
-      is_selection = selection.is;
-      is_where = where_from e.first e.fits_first;
-      is_open = open_brace.is;
-      is_block = each_inside g.first (each_of inside g.first g.fits_first);
-      is_close = close_brace.is;
-      is_tail = k.fits_second;
-    }
+    subst IsOpened (sym (f.are ∙ ap (λ x. x ++ f.second) open_brace.are)) (opened open_brace.token f.second open_brace.is (parted (many inside) closing f.second f.fits_second))
+
+-- from the modifier on
+record IsSelecting (ls : List Lexeme) : Type 0 where
+  modifier : List Lexeme
+  selection : List Lexeme
+  word : List Lexeme
+  rest : List Lexeme
+  are : ls ≡ modifier ++ (selection ++ (word ++ rest))
+  distinct : Bool
+  is_modifier : IsModifier modifier distinct
+  opened : IsOpened rest
+  selects : HasSelection opened.block selection
+  is_where : IsWhere word
+
+selecting : (ls : List Lexeme) → Fits from_modifier ls → IsSelecting ls
+selecting ls h = by (parted (maybe (sign Distinct ∣ sign Reduced)) from_selection ls h) where
+  where_on : (c : Joined (maybe (sign Distinct ∣ sign Reduced)) from_selection ls) (d : Joined (some (sign Variable) ∣ sign Star) from_where c.second)
+      → Joined (maybe (sign Where)) from_brace d.second → IsSelecting ls
+  where_on c d e =
+      let modifier = modifier_from c.first c.fits_first in
+      let rest = opened_from e.second (parted (sign OpenBrace) from_block e.second e.fits_second) in
+      record {
+        modifier = c.first;
+        selection = d.first;
+        word = e.first;
+        rest = e.second;
+        are = c.are ∙ ap (λ x. c.first ++ x) d.are ∙ ap (λ x. c.first ++ (d.first ++ x)) e.are;
+        distinct = modifier.0;
+        is_modifier = modifier.1;
+        opened = rest;
+        selects = selection_from rest.block d.first d.fits_first;
+        is_where = where_from e.first e.fits_first;
+      }
+
+  selection_on : (c : Joined (maybe (sign Distinct ∣ sign Reduced)) from_selection ls) → Joined (some (sign Variable) ∣ sign Star) from_where c.second → IsSelecting ls
+  selection_on c d = where_on c d (parted (maybe (sign Where)) from_brace d.second d.fits_second)
+
+  by : Joined (maybe (sign Distinct ∣ sign Reduced)) from_selection ls → IsSelecting ls
+  by c = selection_on c (parted (some (sign Variable) ∣ sign Star) from_where c.second c.fits_second)
+
+pub outlined : (tokens : List Lexeme) → HasOutline (map sign_of tokens) → IsOutlined tokens
+outlined tokens h = by (parted (many prefix) from_select tokens h) where
+  all : (a : Joined (many prefix) from_select tokens) (select : Lexeme) (rest : List Lexeme) → sign_of select ≡ Select → a.second ≡ select ∷ rest → IsSelecting rest → IsOutlined tokens
+  all a select rest is e s = record {
+    prologue = a.first;
+    select = select;
+    modifier = s.modifier;
+    selection = s.selection;
+    word = s.word;
+    open_brace = s.opened.open_brace;
+    block = s.opened.block;
+    close_brace = s.opened.close_brace;
+    tail = s.opened.tail;
+    are = a.are ∙ ap (λ x. a.first ++ x) e ∙ ap (λ x. a.first ++ select ∷ x) s.are
+        ∙ ap (λ x. a.first ++ select ∷ (s.modifier ++ (s.selection ++ (s.word ++ x)))) s.opened.are;
+    is_prologue = a.fits_first;
+    is_select = is;
+    distinct = s.distinct;
+    is_modifier = s.is_modifier;
+    variables = s.selects.names;
+    is_selection = s.selects.is;
+    is_where = s.is_where;
+    is_open = s.opened.is_open;
+    is_block = s.opened.is_block;
+    is_close = s.opened.is_close;
+    is_tail = s.opened.is_tail;
+  }
+
+  select_on : (a : Joined (many prefix) from_select tokens) → Joined (sign Select) from_modifier a.second → IsOutlined tokens
+  select_on a b =
+      let select = one_token Select b.first b.fits_first in
+      all a select.token b.second select.is (b.are ∙ ap (λ x. x ++ b.second) select.are) (selecting b.second b.fits_second)
+
+  by : Joined (many prefix) from_select tokens → IsOutlined tokens
+  by a = select_on a (parted (sign Select) from_modifier a.second a.fits_second)
 
 -- the tokens before the brace that opens the block
 abbrev pub front_of : {block head : List Lexeme} {ds : List Declaration} {d : Bool} {names : List Name} → IsHead block head ds d names → List Lexeme

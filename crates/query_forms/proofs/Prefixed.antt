@@ -9,7 +9,6 @@ use Rattle.std.proofs.lemmas.Bool.Decides.{nat_tests}
 use Rattle.std.proofs.lemmas.Slice.Eq.{bytes_eq-Decides}
 use Rattle.std.proofs.lemmas.Str.{encodes-append}
 use Rattle.std.proofs.Math.Seq.{take-append_seam, drop-append_seam}
-use Rattle.ntriples_model.specs.Characters.{in_ranges}
 use Rattle.query_tokens.specs.Tokens as kind
 use Rattle.query_tokens.specs.Tokens.{Kind, IsToken}
 use Rattle.query_grammar.specs.Lexemes.{Lexeme, lexeme}
@@ -17,6 +16,7 @@ use Rattle.query_grammar.specs.Signs.{Sign, Prefix, Select, Distinct, Reduced, W
 use Rattle.query_grammar.specs.Texts.{iri_text, is_sign, or_before, declared_here, declared, prefix_length, name_iri_by, name_iri}
 use Rattle.query_forms.specs.Laws.{Lacks, PrefixesAsProductions}
 use Rattle.query_forms.specs.Prologues.{Declaration, declaration, IsPrologue, nothing, next, StandsFor, without_backslashes, MeansName, iri, prefix, local}
+use Rattle.query_forms.proofs.Apart.{one_colon}
 use Rattle.query_forms.proofs.Meant.{mean_as_productions}
 
 abbrev Found : Type 0
@@ -181,7 +181,7 @@ joined_is None more i e = absurd (let f : ⊥ = cc in f)
 joined_is (Some x) more i e = (x, refl, (let same : i ≡ x ++ more = cc in same))
 
 module _ (ls ks : List Lexeme) (ds : List Declaration) (prologue : IsPrologue ls ds) (lacks : Lacks Prefix ks) where
-  pub stands_as_found : (name i : List ℕ) → (StandsFor ds name i → declared name (ls ++ ks) ≡ Some i) × (declared name (ls ++ ks) ≡ Some i → StandsFor ds name i)
+  stands_as_found : (name i : List ℕ) → (StandsFor ds name i → declared name (ls ++ ks) ≡ Some i) × (declared name (ls ++ ks) ≡ Some i → StandsFor ds name i)
   stands_as_found name i =
       let same = declared_last name ls ks ds prologue lacks in
       ((λ h. same ∙ stands_last name i ds h), (λ e. last_stands name i ds (sym same ∙ e)))
@@ -246,12 +246,9 @@ not_word s h e = let f : false ≡ true = sym (ap is_word e) ∙ h.is in (let g 
 
 colon_within : (token : List ℕ) → IsToken kind.PnameLn token → HasColon (encode_utf8_all token)
 unfolding lib.Utf8.encode
-colon_within token (name, rest, e, (front, colon, f, hf, (a, b, g, (c, one, among), empty)), hr) =
-    let is : colon ≡ 58 ∷ [] = g ∙ (λ i. one i ++ empty i) ∙ ap (λ x. x ∷ []) (the_colon c among) in
-    let whole : token ≡ front ++ 58 ∷ rest = e ∙ ap (λ k. k ++ rest) (f ∙ ap (λ k. front ++ k) is) ∙ append_assoc front (58 ∷ []) rest in
-    (encode_utf8_all front, encode_utf8_all rest, ap encode_utf8_all whole ∙ encodes-append front (58 ∷ rest)) where
-      the_colon : (c : ℕ) → in_ranges ((58, 58) ∷ []) c ≡ true → c ≡ 58
-      the_colon c e = grind (arith, nat_tests)
+colon_within token (name, rest, e, (front, colon, f, hf, hc), hr) =
+    let whole : token ≡ front ++ 58 ∷ rest = e ∙ ap (λ k. k ++ rest) (f ∙ ap (λ k. front ++ k) (one_colon colon hc)) ∙ append_assoc front (58 ∷ []) rest in
+    (encode_utf8_all front, encode_utf8_all rest, ap encode_utf8_all whole ∙ encodes-append front (58 ∷ rest))
 
 pub token_colon : (k : Kind) (token : List ℕ) → IsToken k token → sign_of (lexeme k token) ≡ PnameLn → HasColon (encode_utf8_all token)
 unfolding sign_of

@@ -20,15 +20,16 @@ use Rattle.query_grammar.proofs.Outlines.{tests_outlines}
 use Rattle.query_forms.specs.Heads.{IsHead}
 use Rattle.query_forms.specs.Laws.{AllFormsAsProductions, QueriesAsProductions, AnswersAsProductions}
 use Rattle.query_forms.specs.Lexing.{IsLexed, end, next}
-use Rattle.query_forms.specs.Whole.{MeansSome, AreTokens, HasQueryForm, IsQueryLike, IsUnbounded, HasFewPatterns, HasFewColumns, HasSmallNumbers, HasAnswer}
-use Rattle.query_forms.proofs.Assembled.{found_form, form_outline, form_block, form_patterns, forms_as_productions, found_query, query_found}
+use Rattle.query_forms.specs.Whole.{MeansSome, AreTokens, HasQueryForm, HasUndeclared, IsQueryLike, IsUnbounded, HasFewPatterns, HasFewColumns, HasSmallNumbers, HasAnswer}
+use Rattle.query_forms.proofs.Assembled.{found_form, form_outline, form_block, form_patterns, patterns_formed, forms_as_productions, found_query, query_found}
 use Rattle.query_forms.proofs.Headed.{Sound, prologue_from, in_braces}
 use Rattle.query_forms.proofs.Lexed.{lexes_as_productions}
 use Rattle.query_forms.proofs.Meant.{mean_as_productions}
 use Rattle.query_forms.proofs.Outlined.{whole, IsOutlined, outlined}
 use Rattle.query_forms.proofs.Placed.{Colons}
 use Rattle.query_forms.proofs.Prefixed.{token_colon}
-use Rattle.query_forms.proofs.Signed.{each_of, lacks_other, clash}
+use Rattle.query_forms.proofs.Undeclared.{undeclared_none, none_undeclared}
+use Rattle.query_forms.proofs.Signed.{each_of, lacks_other, clash, neither}
 
 -- Tokens that mean something
 
@@ -79,10 +80,6 @@ at_most m n e = grind (arith, nat_tests)
 
 is_at_most : (m n : ℕ) → n ≤ m → nat_lt m n ≡ false
 is_at_most m n e = grind (arith, nat_tests)
-
-neither : (a b : Bool) → (a || b) ≡ false → (a ≡ false) × (b ≡ false)
-neither true b e = absurd (clash e)
-neither false b e = (refl, e)
 
 -- what refutes the one answer of a test gives the other
 decided_true : (b : Bool) → (b ≡ false → ⊥) → b ≡ true
@@ -180,6 +177,10 @@ front_sound : (ls ks : List Lexeme) → Sound (ls ++ ks) → Sound ls
 front_sound [] ks h = tt
 front_sound (l ∷ ls) ks h = (h.0, front_sound ls ks h.1)
 
+back_sound : (ls ks : List Lexeme) → Sound (ls ++ ks) → Sound ks
+back_sound [] ks h = h
+back_sound (l ∷ ls) ks h = back_sound ls ks h.1
+
 -- the form that an outline and its triples give
 outlined_form : (all : List Lexeme) (triples : List Triple) → IsOutlined all → Sound all → triples_of (parts_of all) ≡ Some triples → HasQueryForm all
 outlined_form all triples o sound block =
@@ -254,10 +255,14 @@ module _ (text : List ℕ) where
 
   -- Queries
 
-  query_or_not : IsQueryLike text → ((q : Query) × IsUnbounded text q) ⊎ (query_of text ≡ NoPrefix)
+  query_or_not : (l : IsQueryLike text) → ((q : Query) × IsUnbounded text q) ⊎ (HasUndeclared l.tokens l.form × (query_of text ≡ NoPrefix))
   query_or_not l = by (patterns_of l.tokens (names_of l.tokens) l.form.triples) refl where
-    by : (o : Option (List Pattern)) → patterns_of l.tokens (names_of l.tokens) l.form.triples ≡ o → ((q : Query) × IsUnbounded text q) ⊎ (query_of text ≡ NoPrefix)
-    by None e = inr (by_form l.tokens l.are l.form ∙ ap (of_patterns l.tokens) e)
+    block_sound : Sound l.form.block
+    block_sound = front_sound l.form.block (l.form.brace ∷ l.form.tail) (back_sound l.form.head (l.form.block ++ l.form.brace ∷ l.form.tail) (subst Sound l.form.are l.are.sound))
+
+    by : (o : Option (List Pattern)) → patterns_of l.tokens (names_of l.tokens) l.form.triples ≡ o
+        → ((q : Query) × IsUnbounded text q) ⊎ (HasUndeclared l.tokens l.form × (query_of text ≡ NoPrefix))
+    by None e = inr (none_undeclared l.tokens l.form (names_of l.tokens) block_sound e, by_form l.tokens l.are l.form ∙ ap (of_patterns l.tokens) e)
     by (Some patterns) e = inl (
       query_by l.tokens patterns,
       record {
@@ -266,6 +271,12 @@ module _ (text : List ℕ) where
         query = found_query l.tokens l.form patterns (lexed_colons (chars text) l.tokens l.are.lexed) e;
       },
     )
+
+  undeclared_answer : (l : IsQueryLike text) → HasUndeclared l.tokens l.form → query_of text ≡ NoPrefix
+  undeclared_answer l u = by_form l.tokens l.are l.form ∙ by (patterns_of l.tokens (names_of l.tokens) l.form.triples) refl where
+    by : (o : Option (List Pattern)) → patterns_of l.tokens (names_of l.tokens) l.form.triples ≡ o → of_patterns l.tokens o ≡ NoPrefix
+    by None e = refl
+    by (Some patterns) e = absurd (undeclared_none l.tokens l.form patterns (patterns_formed l.tokens l.form patterns (lexed_colons (chars text) l.tokens l.are.lexed) e) u)
 
   query_answer : (q : Query) → IsUnbounded text q → query_of text ≡ bounded q
   unfolding bounded has_large
@@ -283,7 +294,7 @@ module _ (text : List ℕ) where
 
   answer_found : (answer : Answer) → HasAnswer text answer → query_of text ≡ answer
   answer_found NotQuery h = elim like_or_not [ inl l ↦ absurd (h l) | inr e ↦ e ]
-  answer_found NoPrefix h = elim (query_or_not h.0) [ inl m ↦ absurd (h.1 m.0 m.1) | inr e ↦ e ]
+  answer_found NoPrefix h = undeclared_answer h.0 h.1
   answer_found TooManyPatterns h = query_answer h.0 h.1 ∙ many_patterns h.0 h.2
   answer_found TooManyColumns h = query_answer h.0 h.1 ∙ many_columns h.0 h.2 h.3
   answer_found TooLarge h = query_answer h.0 h.1 ∙ large_numbers h.0 h.2 h.3 h.4
@@ -297,11 +308,11 @@ module _ (text : List ℕ) where
   found_answer = elim like_or_not [
     | inr e ↦ subst (HasAnswer text) (sym e) (λ l. elim (query_or_not l) [
       | inl m ↦ not_of_query NotQuery m.0 refl (sym e ∙ query_answer m.0 m.1)
-      | inr p ↦ no_prefix_differs (sym e ∙ p)
+      | inr p ↦ no_prefix_differs (sym e ∙ p.1)
     ])
     | inl l ↦ elim (query_or_not l) [
       | inl m ↦ subst (HasAnswer text) (sym (query_answer m.0 m.1)) (answered m.0 text m.1)
-      | inr p ↦ subst (HasAnswer text) (sym p) (l, (λ q m. not_of_query NoPrefix q refl (sym p ∙ query_answer q m)))
+      | inr p ↦ subst (HasAnswer text) (sym p.1) (l, p.0)
     ]
   ]
 

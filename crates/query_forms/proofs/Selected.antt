@@ -83,7 +83,7 @@ module _ (block head : List Lexeme) (ds : List Declaration) (d : Bool) (names : 
   brace_lacks : (s : Sign) → is_sign OpenBrace s ≡ false → Lacks s (h.brace ∷ [])
   brace_lacks s e = lacks_other (is_sign OpenBrace) s (h.brace ∷ []) (one_only OpenBrace h.brace h.is_brace) e
 
-  pub front_lacks : (s : Sign) → in_prologue s ≡ false → is_sign Select s ≡ false → in_modifier s ≡ false → in_selection s ≡ false → is_sign Where s ≡ false
+  front_lacks : (s : Sign) → in_prologue s ≡ false → is_sign Select s ≡ false → in_modifier s ≡ false → in_selection s ≡ false → is_sign Where s ≡ false
       → Lacks s (front_of h)
   front_lacks s p e m v w =
       lacks_both s h.prologue (h.select ∷ (h.modifier ++ (h.selection ++ h.where_word))) (prologue_lacks s p)
@@ -145,7 +145,7 @@ module _ (block head : List Lexeme) (ds : List Declaration) (d : Bool) (names : 
       ∙ variables_before 0 h.selection h.where_word (where_lacks Variable refl)))
 
   -- the selected variables, by the star, the names of the block and what stands before it
-  pub chosen : List Lexeme → List Name → List Name
+  chosen : List Lexeme → List Name → List Name
   chosen front inner = cond (has_sign Star front) (variables_from inner) (variables_from (names_from [] 0 front))
 
   chosen_by : (ls : List Lexeme) (i : ℕ) → IsSelection block ls names → ls ≡ h.selection → chosen (front_of h) (names_from [] i block) ≡ names
@@ -163,7 +163,7 @@ module _ (block head : List Lexeme) (ds : List Declaration) (d : Bool) (names : 
       ∙ (ap once_all (variables_at i block)
       ∙ (sym (variables_once 0 block) ∙ sym ((names_as_productions.variables 0 block names).0 are))))
 
-  pub chosen_is : (i : ℕ) → chosen (front_of h) (names_from [] i block) ≡ names
+  chosen_is : (i : ℕ) → chosen (front_of h) (names_from [] i block) ≡ names
   chosen_is i = chosen_by h.selection i h.is_selection refl
 
 -- All of a query's tokens
@@ -190,7 +190,7 @@ module _ (block head tail : List Lexeme) (brace : Lexeme) (ds : List Declaration
   pub before_is : before_block tokens ≡ front_of h
   before_is = ap before_block all_are ∙ front_is (front_of h) block tail h.brace brace h.is_brace closes no_open no_close block_close
 
-  pub within_is : block_of tokens ≡ block
+  within_is : block_of tokens ≡ block
   within_is = ap block_of all_are ∙ block_is (front_of h) block tail h.brace brace h.is_brace closes no_open no_close block_close
 
   pub names_are : names_of tokens ≡ names_from [] (length head) block

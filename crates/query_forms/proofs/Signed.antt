@@ -12,6 +12,18 @@ use Rattle.query_grammar.specs.Outline.{sign}
 use Rattle.query_grammar.specs.Signs.{Sign, Prefix, Select, Distinct, Reduced, Where, Limit, Offset, True, False, TypeOf, OtherWord, Iri, PnameNs, PnameLn, Label, Variable, LangTag, Integer, Number, Text, OpenBrace, CloseBrace, Open, Close, Stop, Comma, Semicolon, Star, Carets, number_of, sign_of}
 use Rattle.query_forms.specs.Laws.{Lacks}
 
+-- Tests
+
+pub clash : true ≡ false → ⊥
+clash e = let f : ⊥ = cc in f
+
+pub neither : (a b : Bool) → (a || b) ≡ false → (a ≡ false) × (b ≡ false)
+neither true b e = absurd (clash e)
+neither false b e = (refl, e)
+
+pub same_number : (m n : ℕ) → (m == n) ≡ true → m ≡ n
+same_number m n e = grind (arith, nat_tests)
+
 -- Signs and their numbers
 
 sign_at : ℕ → Sign
@@ -28,11 +40,8 @@ unfolding sign_at
 numbered Prefix = refl
 numbered _ = refl
 
-pub same_sign : (s t : Sign) → number_of s ≡ number_of t → s ≡ t
+same_sign : (s t : Sign) → number_of s ≡ number_of t → s ≡ t
 same_sign s t e = sym (numbered s) ∙ ap sign_at e ∙ numbered t
-
-same_number : (m n : ℕ) → (m == n) ≡ true → m ≡ n
-same_number m n e = grind (arith, nat_tests)
 
 number_itself : (n : ℕ) → (n == n) ≡ true
 number_itself n = grind (arith, nat_tests)
@@ -40,7 +49,7 @@ number_itself n = grind (arith, nat_tests)
 pub is_it : (s t : Sign) → t ≡ s → is_sign s t ≡ true
 is_it s t e = ap (λ (u : Sign). is_sign s u) e ∙ number_itself (number_of s)
 
-pub is_not : (s t : Sign) → (t ≡ s → ⊥) → is_sign s t ≡ false
+is_not : (s t : Sign) → (t ≡ s → ⊥) → is_sign s t ≡ false
 is_not s t differs = by (is_sign s t) refl where
   by : (b : Bool) → is_sign s t ≡ b → is_sign s t ≡ false
   by true e = absurd (differs (sym (same_sign s t (same_number (number_of s) (number_of t) e))))
@@ -102,7 +111,7 @@ number_here s l number ks e =
 abbrev pub numbers : List Lexeme → List ℕ
 numbers ls = map number_of (map sign_of ls)
 
-pub numbers_both : (ls ks : List Lexeme) → numbers (ls ++ ks) ≡ numbers ls ++ numbers ks
+numbers_both : (ls ks : List Lexeme) → numbers (ls ++ ks) ≡ numbers ls ++ numbers ks
 numbers_both [] ks = refl
 numbers_both (l ∷ ls) ks = ap (λ ns. number_of (sign_of l) ∷ ns) (numbers_both ls ks)
 
@@ -212,9 +221,6 @@ of_each f _ (one_more ls ks h more) = subst (IsRepeated (HasForm f)) (sym (numbe
 
 abbrev pub Only : (Sign → Bool) → List Lexeme → Type 0
 Only allowed ls = AllByRecursion (λ l. allowed (sign_of l) ≡ true) ls
-
-pub clash : true ≡ false → ⊥
-clash e = let f : ⊥ = cc in f
 
 pub lacks_other : (allowed : Sign → Bool) (s : Sign) (ls : List Lexeme) → Only allowed ls → allowed s ≡ false → Lacks s ls
 lacks_other allowed s [] h e = tt

@@ -17,26 +17,27 @@ pub data IsModifier : List Lexeme → Bool → Type 0 where
 pub data IsSelection (block : List Lexeme) : List Lexeme → List Name → Type 0 where
   variables : (l : Lexeme) (ls : List Lexeme) (names : List Name) → AllByRecursion (λ k. sign_of k ≡ Variable) (l ∷ ls)
       → AreNames IsVariable 0 (l ∷ ls) names → IsSelection block (l ∷ ls) names
-  star : (l : Lexeme) (names : List Name) → sign_of l ≡ Star → AreNames IsVariable 0 block names → IsSelection block (l ∷ []) names
+  star : (l : Lexeme) (names : List Name) → sign_of l ≡ Star → AreNames IsVariable 0 block names
+      → IsSelection block (l ∷ []) names
 
 -- 'WHERE'?
 pub data IsWhere : List Lexeme → Type 0 where
   nothing : IsWhere []
   word : (l : Lexeme) → sign_of l ≡ Where → IsWhere (l ∷ [])
 
--- Prologue 'SELECT' ('DISTINCT' | 'REDUCED')? (Var+ | '*') 'WHERE'? '{'
-pub record IsHead (block head : List Lexeme) (ds : List Declaration) (distinct : Bool) (variables : List Name) : Type 0 where
+-- Prologue 'SELECT' ('DISTINCT' | 'REDUCED')? (Var+ | '*') 'WHERE'? '{', and the variables that are selected
+pub record IsHead (block ls : List Lexeme) (ds : List Declaration) (distinct : Bool) (names : List Name) : Type 0 where
   pub prologue : List Lexeme
   pub select : Lexeme
   pub modifier : List Lexeme
   pub selection : List Lexeme
   pub where_word : List Lexeme
   pub brace : Lexeme
-  pub are : head ≡ prologue ++ select ∷ (modifier ++ (selection ++ (where_word ++ brace ∷ [])))
+  pub are : ls ≡ prologue ++ select ∷ (modifier ++ (selection ++ (where_word ++ brace ∷ [])))
   pub is_prologue : IsPrologue prologue ds
   pub is_select : sign_of select ≡ Select
   pub is_modifier : IsModifier modifier distinct
-  pub is_selection : IsSelection block selection variables
+  pub is_selection : IsSelection block selection names
   pub is_where : IsWhere where_word
   pub is_brace : sign_of brace ≡ OpenBrace
 

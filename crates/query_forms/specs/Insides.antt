@@ -1,5 +1,5 @@
--- What the characters inside an IRI or a string mean (SPARQL 1.1, sections 19.2 and 19.7), by productions. Texts are bytes
--- in UTF-8.
+-- What the characters inside an IRI or a string mean (SPARQL 1.1, sections 19.2 and 19.7), by productions. Texts are
+-- bytes in UTF-8.
 use Rattle.std.specs.Prelude.{◌≡◌, ℕ, true, false, ◌==◌, List, [], ◌∷◌, ◌++◌, encode_utf8_all}
 use Rattle.std.specs.List.{list_all}
 use Rattle.std.specs.Str.{chars}

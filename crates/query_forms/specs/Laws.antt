@@ -34,7 +34,8 @@ Lacks s ls = AllByRecursion (λ l. sign_of l ≡ s → ⊥) ls
 
 -- The limit and the offset are those that are found, where what stands before them has none.
 abbrev pub TailsAsProductions : Type 0
-TailsAsProductions = (before tail : List Lexeme) (limit : Option ℕ) (offset : ℕ) → Lacks Limit before → Lacks Offset before
+TailsAsProductions = (before tail : List Lexeme) (limit : Option ℕ) (offset : ℕ)
+    → Lacks Limit before → Lacks Offset before
     → IsTail tail limit offset ↔ (HasForm limits (map number_of (map sign_of tail))
     × (limit ≡ number_behind Limit (before ++ tail)) × (offset ≡ or_zero (number_behind Offset (before ++ tail))))
 
@@ -44,7 +45,8 @@ pub record PrefixesAsProductions : Type 0 where
       → (prefix iri : List ℕ) → StandsFor ds prefix iri ↔ (declared prefix (prologue ++ rest) ≡ Some iri)
   pub names : (prologue rest : List Lexeme) (ds : List Declaration) → IsPrologue prologue ds → Lacks Prefix rest
       → (kind : Kind) (token : List ℕ) → IsToken kind token
-      → (iri : List ℕ) → MeansName ds (lexeme kind token) iri ↔ (name_iri (prologue ++ rest) (lexeme kind token) ≡ Some iri)
+      → (iri : List ℕ)
+      → MeansName ds (lexeme kind token) iri ↔ (name_iri (prologue ++ rest) (lexeme kind token) ≡ Some iri)
 
 -- The names and the variables of tokens are those that are found, in that order.
 pub record NamesAsProductions : Type 0 where
@@ -60,13 +62,16 @@ pub record FormsAsProductions (tokens : List Lexeme) (form : HasQueryForm tokens
   pub limit : form.limit ≡ number_behind Limit tokens
   pub offset : form.offset ≡ or_zero (number_behind Offset tokens)
   pub columns : (columns : List Column)
-      → AllZip (IsColumn form.names) form.variables columns ↔ (columns ≡ map (column_of (names_of tokens)) (selected tokens))
+      → AllZip (IsColumn form.names) form.variables columns
+      ↔ (columns ≡ map (column_of (names_of tokens)) (selected tokens))
   pub terms : (i : ℕ) (t : rdf.Term) → IsTerm form.declarations (drop i tokens) t ↔ (term_at tokens i ≡ Some t)
-  pub patterns : (patterns : List Pattern) → AllZip (IsPattern form.declarations form.names tokens) form.triples patterns
+  pub patterns : (patterns : List Pattern)
+      → AllZip (IsPattern form.declarations form.names tokens) form.triples patterns
       ↔ (patterns_of tokens (names_of tokens) form.triples ≡ Some patterns)
 
 abbrev pub AllFormsAsProductions : Type 0
-AllFormsAsProductions = (cs : List ℕ) (tokens : List Lexeme) → IsLexed cs tokens → (form : HasQueryForm tokens) → FormsAsProductions tokens form
+AllFormsAsProductions = (cs : List ℕ) (tokens : List Lexeme) → IsLexed cs tokens → (form : HasQueryForm tokens)
+    → FormsAsProductions tokens form
 
 -- A text is exactly the query that is found.
 abbrev pub QueriesAsProductions : Type 0

@@ -1,5 +1,5 @@
--- The tokens of a query's text by productions (SPARQL 1.1, sections 19.4 and 19.8). Between tokens stand blanks and comments;
--- these go as far as they can, and so does each token.
+-- The tokens of a query's text by productions (SPARQL 1.1, sections 19.4 and 19.8). Between tokens stand blanks and
+-- comments; these go as far as they can, and so does each token.
 use Rattle.std.specs.Prelude.{◌≡◌, ℕ, ◌≤◌, List, [], ◌∷◌, ◌++◌, length}
 use Rattle.query_tokens.specs.Tokens.{Kind, IsToken, IsGap}
 use Rattle.query_grammar.specs.Lexemes.{Lexeme, lexeme}

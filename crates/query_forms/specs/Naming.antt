@@ -17,9 +17,11 @@ IsVariable i l name = (sign_of l ≡ Variable) × IsName i l name
 -- the names of tokens in their order, where the first token has this place
 pub data Mentions (Is : ℕ → Lexeme → Name → Type 0) : ℕ → List Lexeme → List Name → Type 0 where
   nothing : (i : ℕ) → Mentions Is i [] []
-  name : (i : ℕ) (l : Lexeme) (name : Name) (ls : List Lexeme) (names : List Name) → Is i l name → Mentions Is (i + 1) ls names
+  name : (i : ℕ) (l : Lexeme) (name : Name) (ls : List Lexeme) (names : List Name) → Is i l name
+      → Mentions Is (i + 1) ls names
       → Mentions Is i (l ∷ ls) (name ∷ names)
-  other : (i : ℕ) (l : Lexeme) (ls : List Lexeme) (names : List Name) → ((name : Name) → Is i l name → ⊥) → Mentions Is (i + 1) ls names
+  other : (i : ℕ) (l : Lexeme) (ls : List Lexeme) (names : List Name) → ((name : Name) → Is i l name → ⊥)
+      → Mentions Is (i + 1) ls names
       → Mentions Is i (l ∷ ls) names
 
 -- each name once, at its first appearance
@@ -27,7 +29,8 @@ pub data IsEachOnce : List Name → List Name → Type 0 where
   nothing : IsEachOnce [] []
   new : (all once : List Name) (name : Name) → IsEachOnce all once → (Contains once name → ⊥)
       → IsEachOnce (all ++ name ∷ []) (once ++ name ∷ [])
-  again : (all once : List Name) (name : Name) → IsEachOnce all once → Contains once name → IsEachOnce (all ++ name ∷ []) once
+  again : (all once : List Name) (name : Name) → IsEachOnce all once → Contains once name
+      → IsEachOnce (all ++ name ∷ []) once
 
 -- the names of tokens, each at its first appearance
 pub record AreNames (Is : ℕ → Lexeme → Name → Type 0) (i : ℕ) (ls : List Lexeme) (names : List Name) : Type 0 where

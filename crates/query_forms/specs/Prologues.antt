@@ -1,5 +1,5 @@
--- Prefixes, and the IRIs that are written by them (SPARQL 1.1, section 4.1.1; section 19.8, rules 4, 6, 136 and 137). Texts
--- are bytes in UTF-8.
+-- Prefixes, and the IRIs that are written by them (SPARQL 1.1, section 4.1.1; section 19.8, rules 4, 6, 136 and 137).
+-- Texts are bytes in UTF-8.
 use Rattle.std.specs.Prelude.{◌≡◌, ℕ, not, List, [], ◌∷◌, ◌++◌, ◌==◌, encode_utf8_all}
 use Rattle.std.specs.List.{AllByRecursion, filter}
 use Rattle.std.specs.Str.{chars}
@@ -19,7 +19,8 @@ declaration prefix iri = record { prefix = prefix; iri = iri }
 pub data IsPrologue : List Lexeme → List Declaration → Type 0 where
   nothing : IsPrologue [] []
   next : (word prefix token : Lexeme) (iri : List ℕ) (ls : List Lexeme) (ds : List Declaration)
-      → sign_of word ≡ Prefix → sign_of prefix ≡ PnameNs → sign_of token ≡ Iri → MeansIri token.text iri → IsPrologue ls ds
+      → sign_of word ≡ Prefix → sign_of prefix ≡ PnameNs → sign_of token ≡ Iri → MeansIri token.text iri
+      → IsPrologue ls ds
       → IsPrologue (word ∷ prefix ∷ token ∷ ls) (declaration prefix.text iri ∷ ds)
 
 -- The prefix stands for the IRI: that is its last declaration.
@@ -33,7 +34,8 @@ pub record StandsFor (ds : List Declaration) (prefix iri : List ℕ) : Type 0 wh
 abbrev pub without_backslashes : List ℕ → List ℕ
 without_backslashes text = encode_utf8_all (filter (λ c. not (c == 92)) (chars text))
 
--- iri ::= IRIREF | PrefixedName, with PrefixedName ::= PNAME_LN | PNAME_NS. The prefix of a PNAME_LN ends at its first colon.
+-- iri ::= IRIREF | PrefixedName, with PrefixedName ::= PNAME_LN | PNAME_NS. The prefix of a PNAME_LN ends at its first
+-- colon.
 pub data MeansName (ds : List Declaration) : Lexeme → List ℕ → Type 0 where
   iri : (l : Lexeme) (iri : List ℕ) → sign_of l ≡ Iri → MeansIri l.text iri → MeansName ds l iri
   prefix : (l : Lexeme) (iri : List ℕ) → sign_of l ≡ PnameNs → StandsFor ds l.text iri → MeansName ds l iri

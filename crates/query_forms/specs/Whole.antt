@@ -1,17 +1,17 @@
 -- The query of a text, or its first fault, by productions (SPARQL 1.1, section 19.8).
-use Rattle.std.specs.Prelude.{◌≡◌, ℕ, ◌^◌, ◌<◌, ◌≤◌, Bool, List, ◌∷◌, ◌++◌, length, Option, IfSome, IsUtf8}
+use Rattle.std.specs.Prelude.{◌≡◌, ℕ, ◌^◌, ◌<◌, ◌≤◌, Bool, ◌⊎◌, List, ◌∷◌, ◌++◌, length, Option, IfSome, IsUtf8}
 use Rattle.std.specs.List.{AllByRecursion, AllZip}
 use Rattle.std.specs.Str.{chars}
 use Rattle.query_grammar.specs.Block.{Triple, IsBlock}
 use Rattle.query_grammar.specs.Lexemes.{Lexeme}
 use Rattle.query_grammar.specs.Meaning.{Name, Query, Answer, NotQuery, NoPrefix, TooManyPatterns, TooManyColumns, TooLarge, IsQuery, parts_from}
-use Rattle.query_grammar.specs.Signs.{Sign, CloseBrace, Iri, Text, sign_of}
+use Rattle.query_grammar.specs.Signs.{Sign, CloseBrace, Iri, PnameNs, PnameLn, Text, sign_of}
 use Rattle.query_forms.specs.Heads.{IsHead, IsColumn}
 use Rattle.query_forms.specs.Insides.{MeansIri, MeansText}
 use Rattle.query_forms.specs.Lexing.{IsLexed}
 use Rattle.query_forms.specs.Naming.{IsName, AreNames}
 use Rattle.query_forms.specs.Patterns.{IsPattern}
-use Rattle.query_forms.specs.Prologues.{Declaration}
+use Rattle.query_forms.specs.Prologues.{Declaration, MeansName}
 use Rattle.query_forms.specs.Tails.{IsTail}
 
 -- a token that is an IRI or a string means one
@@ -45,6 +45,15 @@ pub record HasQueryForm (tokens : List Lexeme) : Type 0 where
   pub is_brace : sign_of brace ≡ CloseBrace
   pub is_tail : IsTail tail limit offset
   pub are_names : AreNames IsName (length head) block names
+
+-- A prefixed name of the block has a prefix that is not declared.
+pub record HasUndeclared (tokens : List Lexeme) (form : HasQueryForm tokens) : Type 0 where
+  pub before : List Lexeme
+  pub name : Lexeme
+  pub behind : List Lexeme
+  pub are : form.block ≡ before ++ name ∷ behind
+  pub is_prefixed : (sign_of name ≡ PnameNs) ⊎ (sign_of name ≡ PnameLn)
+  pub undeclared : (iri : List ℕ) → MeansName form.declarations name iri → ⊥
 
 -- The tokens are this query: by their form, where each triple of the block has a pattern.
 pub record AreQuery (tokens : List Lexeme) (q : Query) : Type 0 where
@@ -84,12 +93,13 @@ pub record IsQueryText (text : List ℕ) (q : Query) : Type 0 where
   pub few_columns : HasFewColumns q
   pub small_numbers : HasSmallNumbers q
 
--- The text is a query, or this is its first fault: it has not the form of one, it has it and yet is none since a prefix is not
--- declared, or a query is outside the bounds.
+-- The text is a query, or this is its first fault: it has not the form of one, it has an undeclared prefix, or the
+-- query is outside the bounds.
 abbrev pub HasAnswer : List ℕ → Answer → Type 0
 HasAnswer text NotQuery = IsQueryLike text → ⊥
-HasAnswer text NoPrefix = IsQueryLike text × ((q : Query) → IsUnbounded text q → ⊥)
+HasAnswer text NoPrefix = (like : IsQueryLike text) × HasUndeclared like.tokens like.form
 HasAnswer text TooManyPatterns = (q : Query) × IsUnbounded text q × (HasFewPatterns q → ⊥)
 HasAnswer text TooManyColumns = (q : Query) × IsUnbounded text q × HasFewPatterns q × (HasFewColumns q → ⊥)
-HasAnswer text TooLarge = (q : Query) × IsUnbounded text q × HasFewPatterns q × HasFewColumns q × (HasSmallNumbers q → ⊥)
+HasAnswer text TooLarge =
+    (q : Query) × IsUnbounded text q × HasFewPatterns q × HasFewColumns q × (HasSmallNumbers q → ⊥)
 HasAnswer text (IsQuery q) = IsQueryText text q

@@ -1,6 +1,7 @@
 //! Definitions alone: the texts of SELECT queries by productions on whole texts (SPARQL 1.1, section 19): their tokens and
-//! what stands between these, what IRIs and strings mean, and the query of a text. `query_grammar` has the functions that
-//! find the same from the front; those below say that the two agree.
+//! what stands between these, what IRIs, strings and prefixed names mean, and the query of a text or its first fault, which
+//! `specs/Whole.antt` has. `query_grammar` has the functions that find the same from the front; those below say that the two
+//! agree.
 #![tactic(auto)]
 
 ghost use Rattle.query_tokens.specs.Laws.{OneKind};

@@ -127,6 +127,40 @@ fn first_faults(rt: HostRuntime) {
     }
 }
 
+// Texts that are no query: by a byte, a token, an IRI, an escape, a character's number, or what stands where.
+const NO_QUERY: [&[u8]; 20] = [
+    b"",
+    b"SELECT * { ?s ?p \"\xff\" }",
+    b"SELECT * { } # \xc3",
+    b"SELECT * { ?s ?p ~ }",
+    b"SELECT * { ?s ?p - 1 }",
+    b"SELECT * { ?s ?p <x:a b> }",
+    b"SELECT * { ?s <p> ?o }",
+    b"SELECT * { ?s <> ?o }",
+    b"SELECT * { ?s <1x:p> ?o }",
+    b"PREFIX a: <p> SELECT * { }",
+    b"SELECT * { ?s <x:\\u0020> ?o }",
+    b"SELECT * { ?s ?p '\\q' }",
+    b"SELECT * { ?s ?p '\\uDFFF' }",
+    b"SELECT * { ?s ?p '\\U00110000' }",
+    b"SELECT * { ?s ?p ?o } LIMIT 1 LIMIT 1",
+    b"SELECT * { ?s ?p ?o } SELECT",
+    b"SELECT * { ?s ?p ?o } .",
+    b"SELECT * { ?s ?p ?o } LIMIT 1.0",
+    b"SELECT * { FILTER(true) }",
+    b"PREFIX a: <x:> SELECT * { ?s ?p 1^^a:b }",
+];
+
+#[test]
+fn texts_that_are_no_query(rt: HostRuntime) {
+    for text in NO_QUERY {
+        match read(rt.alloc(), text) {
+            Ok(_) => panic!(&rt; "{}", text.len()),
+            Err(fault) => assert_eq!(&rt; fault, ReadFault::NotQuery, "{}", text.len()),
+        }
+    }
+}
+
 #[test]
 fn too_many_columns(rt: HostRuntime) -> Result<(), Fail> {
     for (count, is_read) in [(128, true), (129, false)] {

@@ -155,8 +155,13 @@ const NO_QUERY: [&[u8]; 20] = [
 fn texts_that_are_no_query(rt: HostRuntime) {
     for text in NO_QUERY {
         match read(rt.alloc(), text) {
-            Ok(_) => panic!(&rt; "{}", text.len()),
-            Err(fault) => assert_eq!(&rt; fault, ReadFault::NotQuery, "{}", text.len()),
+            Ok(_) => panic!(&rt; "a text of {} bytes", text.len()),
+            Err(fault) => assert_eq!(&rt;
+                fault,
+                ReadFault::NotQuery,
+                "a text of {} bytes",
+                text.len()
+            ),
         }
     }
 }

@@ -1,5 +1,5 @@
 //! Scripts, the answers that they want, and how they end.
-use crate::harness::run_in_pieces;
+use crate::harness::{answers, run_in_pieces};
 use graph_store::{NoWatch, Store};
 use std::test::Fail;
 use tentris_core::{Status, run};
@@ -43,8 +43,8 @@ fn scripts_have_their_answers(rt: HostRuntime) -> Result<(), Fail> {
         ),
         (
             "a refused block changes nothing",
-            "INSERT\n<x:a> <x:p> <x:b> .\n<x:a> <x:p> <x:c> .\nGO\nINSERT\n<x:a> <x:p> <x:e> .\n# note\n<x:a> <x:p> .\nGO\n",
-            "ok new 2 now 2\nrefused 3 line 3\n",
+            "INSERT\n<x:a> <x:p> <x:b> .\n<x:a> <x:p> <x:c> .\nGO\nINSERT\n<x:a> <x:p> <x:e> .\n# note\n<x:a> <x:p> .\nGO\nSTATS\n",
+            "ok new 2 now 2\nrefused 3 line 3\ntriples 2\nterms 4\ntwo 3\none 1\nok stats\n",
             Status::SomeRefused,
             2,
         ),
@@ -130,6 +130,7 @@ fn scripts_have_their_answers(rt: HostRuntime) -> Result<(), Fail> {
             assert_eq!(rt; got.status, status, "{name}, in pieces of {piece}");
             assert_eq!(rt; got.triples, triples, "{name}, in pieces of {piece}");
         }
+        answers(&rt, rt.alloc(), &[], script.as_bytes(), want, status)?;
     }
     Ok(())
 }

@@ -11,6 +11,12 @@ abbrev pub from_of : Option Id → ℕ
 from_of None = 2 ^ 32
 from_of (Some k) = k.0
 
+-- the lesser of two keys, where there are two
+abbrev pub lesser_of : Option Id → Option Id → Option Id
+lesser_of None b = b
+lesser_of (Some x) None = Some x
+lesser_of (Some x) (Some y) = cond (nat_lt y.0 x.0) (Some y) (Some x)
+
 -- whether the element of label l is there and below k
 abbrev pub is_below : ℕ → ℕ → List ℕ → Bool
 is_below l k [] = false

@@ -1,5 +1,5 @@
 //! The search for solutions. Labels are fixed one after another, and the last one goes on to its next key.
-ghost use Rattle.std.specs.Prelude.{◌≡◌, ◌<◌, ◌≤◌, ℕ, true, false, List, [], ◌∷◌, ◌++◌, IsTrue, IfOk, IfSome, length, slice_index_or};
+ghost use Rattle.std.specs.Prelude.{◌≡◌, ◌+◌, ◌<◌, ◌≤◌, ℕ, true, false, List, [], ◌∷◌, ◌++◌, IsTrue, IfOk, IfSome, length, slice_index_or};
 ghost use Rattle.std.specs.List.{AllByRecursion};
 ghost use Rattle.std.specs.List.Sorted.{IsPermutation};
 ghost use Rattle.std.specs.Ordering.{nat_cmp};
@@ -9,7 +9,8 @@ ghost use Rattle.bag_list.specs.Search.{IsKept, IsSameQuery, coming_of, id_solut
 ghost use Rattle.bag_list.specs.Tracks.{IsPart, IsStart, part_at, rests_of};
 
 use crate::level::{Level, after, levels_of};
-use crate::track::{Start, Track, enter_next, n_keys, next_key, ops_of, tracks_of};
+use crate::through::next_left;
+use crate::track::{Start, Track, enter_next, n_keys, ops_of, tracks_of};
 use query_plan::choose;
 use std::alloc::Global;
 use std::sync::ledger::Ledger;
@@ -35,6 +36,8 @@ pub struct Search<O: Operand> {
     pub ops: Vec<O>,
     pub masks: Vec<Mask>,
     pub counts: Vec<u64>,
+    /// How many keys of the last label of columns were tried since the last row.
+    pub tries: u64,
 }
 
 impl<O: Operand> Search<O> {
@@ -73,6 +76,7 @@ impl<O: Operand> Search<O> {
             ops,
             masks,
             counts,
+            tries: 0,
         })
     }
 
@@ -95,6 +99,7 @@ impl<O: Operand> Search<O> {
             } else {
                 self.fresh = false;
                 self.depth = self.told;
+                self.tries = 0;
                 return true;
             }
         }
@@ -141,10 +146,20 @@ impl<O: Operand> Search<O> {
     {
         let last = self.depth - 1;
         let Level { label, from, .. } = self.levels[last];
-        match next_key(
+        let other = tested(
             &self.tracks,
+            &self.levels,
+            last,
+            self.told,
+            &mut self.tries,
+            &mut self.counts,
+            reads,
+        );
+        match next_left(
+            &mut self.tracks,
             last,
             label,
+            other,
             from,
             &mut self.ops,
             &mut self.masks,
@@ -185,13 +200,72 @@ fn choice<O: Operand, W: Ledger>(
     ensures telling { depth < told → result < told }
 {
     let end = if depth < told { told } else { levels.len() };
-    if depth + 1 < end {
-        for i in depth..end {
+    fewest(tracks, levels, depth, depth, end, counts, reads)
+}
+
+/// The place of the label with the fewest keys, from `first` on and below `end`.
+fn fewest<O: Operand, W: Ledger>(
+    tracks: &[Track<O>],
+    levels: &[Level],
+    depth: usize,
+    first: usize,
+    end: usize,
+    counts: &mut [u64],
+    reads: &mut Steps<W>,
+) -> usize
+    requires room { (i : ℕ) (t : _) → i < length tracks.now → depth < length (slice_index_or tracks.now i t).parts.items }
+    requires parts { (i : ℕ) (t : _) (p : _) → i < length tracks.now → IsPart O.depth_of O.tuples (part_at tracks.now depth i t p) }
+    requires some { first < end }
+    requires within { end ≤ length levels.now }
+    requires few { length levels.now ≤ 96 }
+    requires counts { length counts.old ≡ length levels.now }
+    ensures from { first ≤ result }
+    ensures within { result < end }
+{
+    if first + 1 < end {
+        for i in first..end {
             counts[i] = n_keys(tracks, depth, levels[i].label, reads);
         }
     }
-    let first = choose(&counts[depth..end], &ALLOWED[..end - depth]);
-    depth + first.unwrap_or(0)
+    let chosen = choose(&counts[first..end], &ALLOWED[..end - first]);
+    first + chosen.unwrap_or(0)
+}
+
+/// The label with the fewest keys of those that don't tell rows apart, if the last label of those that do has had as many
+/// keys tried since the last row. It is looked for at the second, the fourth, the eighth try and so on.
+fn tested<O: Operand, W: Ledger>(
+    tracks: &[Track<O>],
+    levels: &[Level],
+    last: usize,
+    told: usize,
+    tries: &mut u64,
+    counts: &mut [u64],
+    reads: &mut Steps<W>,
+) -> Option<u8>
+    requires room { (i : ℕ) (t : _) → i < length tracks.now → last < length (slice_index_or tracks.now i t).parts.items }
+    requires parts { (i : ℕ) (t : _) (p : _) → i < length tracks.now → IsPart O.depth_of O.tuples (part_at tracks.now last i t p) }
+    requires last { last < length levels.now }
+    requires told { told ≤ length levels.now }
+    requires few { length levels.now ≤ 96 }
+    requires counts { length counts.old ≡ length levels.now }
+    requires labels { (i : ℕ) (f : _) → i < length levels.now → (slice_index_or levels.now i f).label < length levels.now }
+    ensures label { IfSome result (λ l. l < length levels.now) }
+    ensures before { IfSome result (λ _. last + 1 < length levels.now) }
+{
+    if last + 1 != told || told == levels.len() {
+        return None;
+    }
+    *tries = tries.saturating_add(1);
+    if *tries < 2 || !tries.is_power_of_two() {
+        return None;
+    }
+    let place = fewest(tracks, levels, last, told, levels.len(), counts, reads);
+    let label = levels[place].label;
+    if *tries < n_keys(tracks, last, label, reads) {
+        return None;
+    }
+    *tries = 0;
+    Some(label)
 }
 
 /// Leaves so many rows out. False where fewer are to come.

@@ -1,0 +1,156 @@
+-- The keys that solutions of what is left have at labels.
+use Rattle.std.specs.Prelude.{◌≡◌, ℕ, ◌+◌, ◌^◌, ◌<◌, ◌≤◌, true, false, List, [], ◌∷◌, length, zero, suc, slice_index_or, refl, Option, None, Some, IfSome, MatchOption, nat_lt, cond}
+use Rattle.std.proofs.Common.{sym, ◌∙◌, subst, arith}
+use Rattle.std.proofs.lemmas.Bool.Decides.{nat_tests}
+use Rattle.std.specs.List.{AllByRecursion}
+use native.Mathlib.Decide.{dec_lt}
+use Rattle.hypertrie_model.specs.IdSets.{IdSet}
+use Rattle.hypertrie_model.specs.Sets.{has, HasDepth}
+use Rattle.hypertrie_model.specs.Slices.{at}
+use Rattle.trie_depth.specs.declared.id.Id.{Id}
+use Rattle.key_join.specs.Least.{IsLeastFrom}
+use Rattle.bag_model.specs.Solutions.{image}
+use Rattle.bag_list.specs.declared.track.Part.{Part}
+use Rattle.bag_list.specs.declared.track.Track.{Track}
+use Rattle.bag_list.specs.Labels.{labels_of}
+use Rattle.bag_list.specs.Levels.{lesser_of}
+use Rattle.bag_list.specs.Tracks.{AllAdmitAt, AllHold, HasSolutionAt, IsFixed, IsPart, IsSameTo, part_at}
+use Rattle.bag_list.proofs.Images.{image-admits, is_at-at}
+use Rattle.bag_list.proofs.MemberLemmas.{at-there}
+use Rattle.bag_list.proofs.TrackLemmas.{part-deep}
+
+-- b is there, and not above k
+abbrev pub IsReached : Option Id → ℕ → Type 0
+IsReached b k = MatchOption b ⊥ (λ r. r.0 ≤ k)
+
+pub at-small : (l k n : ℕ) (a : List ℕ) → AllByRecursion (λ x. x < n) a → at l a ≡ Some k → k < n
+at-small l k n [] all e = absurd (let f : ⊥ = cc in f)
+at-small zero k n (x ∷ a) all e = let is : x ≡ k = cc in subst (λ y. y < n) is all.0
+at-small (suc l) k n (x ∷ a) all e = at-small l k n a all.1 e
+
+pub none-there : (o : Option ℕ) (P : Type 0) → IfSome o (λ _. P) → (P → ⊥) → o ≡ None
+none-there None P here not = refl
+none-there (Some x) P here not = absurd (not here)
+
+-- ---- the lesser of two keys
+
+pub lesser-first : (a b : Option Id) (k : ℕ) → IsReached a k → IsReached (lesser_of a b) k
+lesser-first None b k le = absurd le
+lesser-first (Some x) None k le = le
+lesser-first (Some x) (Some y) k le = elim (dec_lt y.0 x.0) as (λ _. IsReached (lesser_of (Some x) (Some y)) k) [
+  | yes lt ↦ subst (λ t. IsReached (cond t (Some y) (Some x)) k) (let t : true ≡ nat_lt y.0 x.0 = grind (arith, nat_tests) in t) (let z : y.0 ≤ k = omega (arith, lt, le) in z)
+  | no ge ↦ subst (λ t. IsReached (cond t (Some y) (Some x)) k) (let t : false ≡ nat_lt y.0 x.0 = grind (arith, nat_tests) in t) le
+]
+
+pub lesser-second : (a b : Option Id) (k : ℕ) → IsReached b k → IsReached (lesser_of a b) k
+lesser-second None b k le = le
+lesser-second (Some x) None k le = absurd le
+lesser-second (Some x) (Some y) k le = elim (dec_lt y.0 x.0) as (λ _. IsReached (lesser_of (Some x) (Some y)) k) [
+  | yes lt ↦ subst (λ t. IsReached (cond t (Some y) (Some x)) k) (let t : true ≡ nat_lt y.0 x.0 = grind (arith, nat_tests) in t) le
+  | no ge ↦ subst (λ t. IsReached (cond t (Some y) (Some x)) k) (let t : false ≡ nat_lt y.0 x.0 = grind (arith, nat_tests) in t) (let z : x.0 ≤ k = omega (arith, ge, le) in z)
+]
+
+pub lesser-from : (a b : Option Id) (k : ℕ) → IfSome a (λ r. k ≤ r.0) → IfSome b (λ r. k ≤ r.0) → IfSome (lesser_of a b) (λ r. k ≤ r.0)
+lesser-from None b k first second = second
+lesser-from (Some x) None k first second = first
+lesser-from (Some x) (Some y) k first second = elim (nat_lt y.0 x.0) as (λ t. IfSome (cond t (Some y) (Some x)) (λ r. k ≤ r.0)) [ true ↦ second | false ↦ first ]
+
+-- ---- what a solution of what is left has
+
+module _ {O : Type 0} (depth_of : O → ℕ) (tuples : O → IdSet) (deep : (o : O) → HasDepth (depth_of o) (tuples o)) where
+  -- a key that all patterns admit
+  pub holding-admits : (tracks : List (Track O)) (depth : ℕ) (a : List ℕ) (l q : ℕ) → ((i : ℕ) (t : Track O) (p : Part O) → i < length tracks → IsPart depth_of tuples (part_at tracks depth i t p)) → AllHold tuples tracks depth a → at l a ≡ Some q → AllAdmitAt tuples tracks depth l q
+  holding-admits tracks depth a l q parts holds at_l i t p lt some =
+      let x = part_at tracks depth i t p in
+      image-admits l q a at_l (tuples x.op) (labels_of x.labels) (part-deep depth_of tuples deep x (parts i t p lt)) (holds i t p lt)
+
+  -- the same once a label is fixed at the key that it has
+  pub holding-fixed : (old now : List (Track O)) (depth l k : ℕ) (a : List ℕ) → length now ≡ length old → ((i : ℕ) (t : Track O) (p : Part O) → i < length old → IsFixed depth_of tuples l k (part_at old depth i t p) (part_at now (depth + 1) i t p)) → at l a ≡ Some k → AllHold tuples old depth a → AllHold tuples now (depth + 1) a
+  holding-fixed old now depth l k a same fixed here holds i t p lt =
+      let lt_old : i < length old = omega (arith, lt, same) in
+      (fixed i t p lt_old).image a (is_at-at l k a here) ∙ holds i t p lt_old
+
+module _ {O : Type 0} (old now : List (Track O)) (depth : ℕ) (n_now : length now ≡ length old) (same : (i : ℕ) (t : Track O) → i < length old → IsSameTo depth (slice_index_or old i t) (slice_index_or now i t)) where
+  -- the patterns are as they were
+  pub part-same : (i : ℕ) (t : Track O) (p : Part O) → i < length old → part_at now depth i t p ≡ part_at old depth i t p
+  part-same i t p lt = (same i t lt).parts depth p (omega arith)
+
+  pub parts-same : (P : Part O → Type 0) → ((i : ℕ) (t : Track O) (p : Part O) → i < length old → P (part_at old depth i t p)) → (i : ℕ) (t : Track O) (p : Part O) → i < length now → P (part_at now depth i t p)
+  parts-same P each i t p lt = let lt_old : i < length old = omega (arith, lt, n_now) in subst P (sym (part-same i t p lt_old)) (each i t p lt_old)
+
+  pub room-same : (d : ℕ) → ((i : ℕ) (t : Track O) → i < length old → d < length (slice_index_or old i t).parts.items) → (i : ℕ) (t : Track O) → i < length now → d < length (slice_index_or now i t).parts.items
+  room-same d room i t lt =
+      let lt_old : i < length old = omega (arith, lt, n_now) in
+      let alike = (same i t lt_old).room in
+      let before = room i t lt_old in
+      omega (arith, alike, before)
+
+  pub solution-same : (tuples : O → IdSet) (n l k : ℕ) → HasSolutionAt tuples n old depth l k → HasSolutionAt tuples n now depth l k
+  solution-same tuples n l k s = record {
+    solution = s.solution;
+    long = s.long;
+    ids = s.ids;
+    key = s.key;
+    holds = parts-same (λ p. has (tuples p.op) (image s.solution (labels_of p.labels)) ≡ true) s.holds;
+  }
+
+pub same-twice : {O : Type 0} (depth : ℕ) (x y z : Track O) → IsSameTo depth x y → IsSameTo depth y z → IsSameTo depth x z
+same-twice depth x y z first second = record {
+  start = second.start ∙ first.start;
+  room = second.room ∙ first.room;
+  parts = λ j p le. second.parts j p le ∙ first.parts j p le;
+}
+
+-- ---- the keys of another label
+
+-- a solution that has at the label m a key below `start` has at the label l no key below `best`
+pub record AreThrough {O : Type 0} (tuples : O → IdSet) (old now : List (Track O)) (depth l m from start : ℕ) (best : Option Id) : Type 0 where
+  pub same : (i : ℕ) (t : Track O) → i < length old → IsSameTo depth (slice_index_or old i t) (slice_index_or now i t)
+  pub above : IfSome best (λ r. from ≤ r.0)
+  pub reached : (n k x : ℕ) (s : HasSolutionAt tuples n old depth l k) → at m s.solution ≡ Some x → x < start → from ≤ k → IsReached best k
+
+module _ {O : Type 0} (depth_of : O → ℕ) (tuples : O → IdSet) (deep : (o : O) → HasDepth (depth_of o) (tuples o)) (old now : List (Track O)) (depth l m from start : ℕ) (best : Option Id) (n_now : length now ≡ length old) (parts : (i : ℕ) (t : Track O) (p : Part O) → i < length old → IsPart depth_of tuples (part_at old depth i t p)) (before : AreThrough tuples old now depth l m from start best) where
+  -- the key that a solution has at the label m is admitted
+  through-admits : (n k x : ℕ) (s : HasSolutionAt tuples n old depth l k) → at m s.solution ≡ Some x → AllAdmitAt tuples now depth m x
+  unfolding solution-same
+  through-admits n k x s here =
+      holding-admits depth_of tuples deep now depth s.solution m x (parts-same old now depth n_now before.same (IsPart depth_of tuples) parts)
+      (solution-same old now depth n_now before.same tuples n l k s).holds here
+
+  never : (b : Option Id) (k : ℕ) → ((key : Id) → b ≡ Some key → ⊥) → IsReached b k → ⊥
+  never None k none le = le
+  never (Some key) k none le = none key refl
+
+  -- no key is left
+  pub through-ended : (found : Option Id) → IsLeastFrom start (AllAdmitAt tuples now depth m) found → ((key : Id) → found ≡ Some key → ⊥) → (n k : ℕ) → m < n → HasSolutionAt tuples n old depth l k → from ≤ k → IsReached best k
+  through-ended found least none n k lt s le =
+      let there = at-there m s.solution (subst (λ i. m < i) (sym s.long) lt) in
+      elim (dec_lt there.0 start) as (λ _. IsReached best k) [
+        | yes low ↦ before.reached n k there.0 s there.1 low le
+        | no high ↦ absurd (never found there.0 none (least.least there.0 (omega (arith, high)) (through-admits n k there.0 s there.1)))
+      ]
+
+  -- one more
+  pub through-more : (key next : ℕ) (found : Option Id) (after : List (Track O)) → next ≡ key + 1 → ((x : ℕ) → start ≤ x → AllAdmitAt tuples now depth m x → key ≤ x)
+      → ((i : ℕ) (t : Track O) → i < length now → IsSameTo depth (slice_index_or now i t) (slice_index_or after i t)) → IfSome found (λ r. from ≤ r.0)
+      → ((n k : ℕ) (s : HasSolutionAt tuples n now depth l k) → at m s.solution ≡ Some key → from ≤ k → IsReached found k)
+      → AreThrough tuples old after depth l m from next (lesser_of best found)
+  unfolding solution-same
+  through-more key next found after is least same above reached = record {
+    same = λ i t lt. same-twice depth _ _ _ (before.same i t lt) (same i t (omega (arith, lt, n_now)));
+    above = lesser-from best found from before.above above;
+    reached = λ n k x s here low le. elim (dec_lt x start) as (λ _. IsReached (lesser_of best found) k) [
+      | yes early ↦ lesser-first best found k (before.reached n k x s here early le)
+      | no late ↦
+          let not_below = least x (omega (arith, late)) (through-admits n k x s here) in
+          let is : x ≡ key = omega (arith, not_below, low, is) in
+          lesser-second best found k (reached n k (solution-same old now depth n_now before.same tuples n l k s) (subst (λ y. at m s.solution ≡ Some y) is here) le)
+    ];
+  }
+
+-- every key was gone through
+pub through-all : {O : Type 0} (tuples : O → IdSet) (old now : List (Track O)) (depth l m from start : ℕ) (best : Option Id) → AreThrough tuples old now depth l m from start best → start ≡ 2 ^ 32 → (n k : ℕ) → m < n → HasSolutionAt tuples n old depth l k → from ≤ k → IsReached best k
+through-all tuples old now depth l m from start best all end n k lt s le =
+    let there = at-there m s.solution (subst (λ i. m < i) (sym s.long) lt) in
+    let small = at-small m there.0 (2 ^ 32) s.solution s.ids there.1 in
+    all.reached n k there.0 s there.1 (omega (arith, end, small)) le

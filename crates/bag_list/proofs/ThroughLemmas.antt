@@ -1,7 +1,8 @@
 -- The keys that solutions of what is left have at labels.
 use Rattle.std.specs.Prelude.{◌≡◌, ℕ, ◌+◌, ◌^◌, ◌<◌, ◌≤◌, true, false, List, [], ◌∷◌, length, zero, suc, slice_index_or, refl, Option, None, Some, IfSome, MatchOption, nat_lt, cond}
-use Rattle.std.proofs.Common.{sym, ◌∙◌, subst, arith}
+use Rattle.std.proofs.Common.{sym, ◌∙◌, ap, subst, arith}
 use Rattle.std.proofs.lemmas.Bool.Decides.{nat_tests}
+use Rattle.std.proofs.lemmas.List.{get_or_default}
 use Rattle.std.specs.List.{AllByRecursion}
 use native.Mathlib.Decide.{dec_lt}
 use Rattle.hypertrie_model.specs.IdSets.{IdSet}
@@ -10,10 +11,11 @@ use Rattle.hypertrie_model.specs.Slices.{at}
 use Rattle.trie_depth.specs.declared.id.Id.{Id}
 use Rattle.key_join.specs.Least.{IsLeastFrom}
 use Rattle.bag_model.specs.Solutions.{image}
+use Rattle.bag_list.specs.declared.level.Level.{Level}
 use Rattle.bag_list.specs.declared.track.Part.{Part}
 use Rattle.bag_list.specs.declared.track.Track.{Track}
 use Rattle.bag_list.specs.Labels.{labels_of}
-use Rattle.bag_list.specs.Levels.{lesser_of}
+use Rattle.bag_list.specs.Levels.{AreBelow, from_of, lesser_of}
 use Rattle.bag_list.specs.Tracks.{AllAdmitAt, AllHold, HasSolutionAt, IsFixed, IsPart, IsSameTo, part_at}
 use Rattle.bag_list.proofs.Images.{image-admits, is_at-at}
 use Rattle.bag_list.proofs.MemberLemmas.{at-there}
@@ -28,9 +30,11 @@ at-small l k n [] all e = absurd (let f : ⊥ = cc in f)
 at-small zero k n (x ∷ a) all e = let is : x ≡ k = cc in subst (λ y. y < n) is all.0
 at-small (suc l) k n (x ∷ a) all e = at-small l k n a all.1 e
 
-pub none-there : (o : Option ℕ) (P : Type 0) → IfSome o (λ _. P) → (P → ⊥) → o ≡ None
-none-there None P here not = refl
-none-there (Some x) P here not = absurd (not here)
+pub none-before : (first n last : ℕ) → first ≤ n → (first < n → last + 1 < n) → n ≡ last + 1 → first ≡ n
+none-before first n last le before end = elim (dec_lt first n) as (λ _. first ≡ n) [
+  | yes lt ↦ absurd (let more = before lt in omega (arith, more, end))
+  | no ge ↦ omega (arith, le, ge)
+]
 
 -- ---- the lesser of two keys
 
@@ -154,3 +158,52 @@ through-all tuples old now depth l m from start best all end n k lt s le =
     let there = at-there m s.solution (subst (λ i. m < i) (sym s.long) lt) in
     let small = at-small m there.0 (2 ^ 32) s.solution s.ids there.1 in
     all.reached n k there.0 s there.1 (omega (arith, end, small)) le
+
+-- ---- one label after another
+
+-- no solution has at the label of the level a key that is still to be tried and is below `next`
+pub record IsRaised {O : Type 0} (tuples : O → IdSet) (levels : List Level) (old now : List (Track O)) (depth first next : ℕ) : Type 0 where
+  pub same : (i : ℕ) (t : Track O) → i < length old → IsSameTo depth (slice_index_or old i t) (slice_index_or now i t)
+  pub above : (f : Level) → from_of (slice_index_or levels depth f).from ≤ next
+  pub least : (n k : ℕ) (f : Level) → AreBelow n levels → HasSolutionAt tuples n old depth (slice_index_or levels depth f).label k → from_of (slice_index_or levels depth f).from ≤ k → next ≤ k
+  pub admitted : first ≡ length levels → (f : Level) → AllAdmitAt tuples old depth (slice_index_or levels depth f).label next
+
+-- which default is asked for makes no difference
+pub level-at : (levels : List Level) (depth : ℕ) (f : Level) → f ≡ slice_index_or levels depth f → depth < length levels → (g : Level) → f ≡ slice_index_or levels depth g
+level-at levels depth f is within g = is ∙ get_or_default levels depth f g within
+
+module _ {O : Type 0} (depth_of : O → ℕ) (tuples : O → IdSet) (deep : (o : O) → HasDepth (depth_of o) (tuples o)) (levels : List Level) (tracks : List (Track O)) (depth first : ℕ) (parts : (i : ℕ) (t : Track O) (p : Part O) → i < length tracks → IsPart depth_of tuples (part_at tracks depth i t p)) (f : Level) (is : f ≡ slice_index_or levels depth f) (within : depth < length levels) (from : ℕ) (at_from : from_of f.from ≡ from) (found : Option Id) (least : IsLeastFrom from (AllAdmitAt tuples tracks depth f.label) found) where
+  level-is : (g : Level) → f ≡ slice_index_or levels depth g
+  level-is g = level-at levels depth f is within g
+
+  -- the next key of the label's own patterns
+  pub next-reached : (n k : ℕ) (g : Level) → HasSolutionAt tuples n tracks depth (slice_index_or levels depth g).label k → from_of (slice_index_or levels depth g).from ≤ k → IsReached found k
+  next-reached n k g s le =
+      let here = subst (λ h. HasSolutionAt tuples n tracks depth h.label k) (sym (level-is g)) s in
+      let low = ap (λ h. from_of h.from) (level-is g) in
+      least.least k (omega (arith, low, at_from, le)) (holding-admits depth_of tuples deep tracks depth here.solution f.label k parts here.holds here.key)
+
+  pub next-raised : (key : Id) → found ≡ Some key → IsRaised tuples levels tracks tracks depth first key.0
+  next-raised key e = record {
+    same = λ i t lt. record { start = refl; room = refl; parts = λ _ _ _. refl };
+    above = λ g.
+        let low = ap (λ h. from_of h.from) (level-is g) in
+        let up : from ≤ key.0 = subst (λ b. IfSome b (λ r. from ≤ r.0)) e least.above in
+        omega (arith, low, at_from, up);
+    least = λ n k g _ s le. subst (λ b. IsReached b k) e (next-reached n k g s le);
+    admitted = λ _ g. subst (λ h. AllAdmitAt tuples tracks depth h.label key.0) (level-is g) (subst (λ b. IfSome b (λ r. AllAdmitAt tuples tracks depth f.label r.0)) e least.there);
+  }
+
+module _ {O : Type 0} (tuples : O → IdSet) (levels : List Level) (old now : List (Track O)) (depth first next : ℕ) (n_now : length now ≡ length old) (before : IsRaised tuples levels old now depth first next) (l m : ℕ) (at_label : (g : Level) → l ≡ (slice_index_or levels depth g).label) (listed : (n : ℕ) → AreBelow n levels → m < n) (found : Option Id) (least : (n k : ℕ) → m < n → HasSolutionAt tuples n now depth l k → next ≤ k → IsReached found k) where
+  -- once it was raised through one label more
+  pub raised-reached : (n k : ℕ) (g : Level) → AreBelow n levels → HasSolutionAt tuples n old depth (slice_index_or levels depth g).label k → from_of (slice_index_or levels depth g).from ≤ k → IsReached found k
+  raised-reached n k g below s le =
+      least n k (listed n below) (solution-same old now depth n_now before.same tuples n l k (subst (λ i. HasSolutionAt tuples n old depth i k) (sym (at_label g)) s)) (before.least n k g below s le)
+
+  pub raised-more : (key : Id) (after : List (Track O)) → found ≡ Some key → next ≤ key.0 → ((i : ℕ) (t : Track O) → i < length now → IsSameTo depth (slice_index_or now i t) (slice_index_or after i t)) → first < length levels → IsRaised tuples levels old after depth first key.0
+  raised-more key after e up same some = record {
+    same = λ i t lt. same-twice depth _ _ _ (before.same i t lt) (same i t (omega (arith, lt, n_now)));
+    above = λ g. let low = before.above g in omega (arith, low, up);
+    least = λ n k g below s le. subst (λ b. IsReached b k) e (raised-reached n k g below s le);
+    admitted = λ is g. absurd (omega (arith, is, some));
+  }

@@ -36,7 +36,7 @@ pub struct Search<O: Operand> {
     pub ops: Vec<O>,
     pub masks: Vec<Mask>,
     pub counts: Vec<u64>,
-    /// How many keys of the last label of columns were tried since the last row.
+    /// How many keys of the last label that tells rows apart were tried since the last row.
     pub tries: u64,
 }
 
@@ -130,6 +130,7 @@ impl<O: Operand> Search<O> {
             key: self.values[usize::from(label)],
             from: Some(Id(0)),
         };
+        self.tries = tries_opened(self.depth, self.told, self.tries);
         self.depth += 1;
         self.fresh = false;
     }
@@ -145,22 +146,15 @@ impl<O: Operand> Search<O> {
         ensures less { steps_left self.new < steps_left self.old }
     {
         let last = self.depth - 1;
-        let Level { label, from, .. } = self.levels[last];
-        let other = tested(
-            &self.tracks,
-            &self.levels,
-            last,
-            self.told,
-            &mut self.tries,
-            &mut self.counts,
-            reads,
-        );
+        let label = self.levels[last].label;
+        self.tries = tries_more(self.depth, self.told, self.tries);
+        let first = first_tested(last, self.told, self.levels.len(), self.tries);
         match next_left(
             &mut self.tracks,
+            &self.levels,
             last,
-            label,
-            other,
-            from,
+            first,
+            self.tries,
             &mut self.ops,
             &mut self.masks,
             reads,
@@ -200,72 +194,43 @@ fn choice<O: Operand, W: Ledger>(
     ensures telling { depth < told → result < told }
 {
     let end = if depth < told { told } else { levels.len() };
-    fewest(tracks, levels, depth, depth, end, counts, reads)
-}
-
-/// The place of the label with the fewest keys, from `first` on and below `end`.
-fn fewest<O: Operand, W: Ledger>(
-    tracks: &[Track<O>],
-    levels: &[Level],
-    depth: usize,
-    first: usize,
-    end: usize,
-    counts: &mut [u64],
-    reads: &mut Steps<W>,
-) -> usize
-    requires room { (i : ℕ) (t : _) → i < length tracks.now → depth < length (slice_index_or tracks.now i t).parts.items }
-    requires parts { (i : ℕ) (t : _) (p : _) → i < length tracks.now → IsPart O.depth_of O.tuples (part_at tracks.now depth i t p) }
-    requires some { first < end }
-    requires within { end ≤ length levels.now }
-    requires few { length levels.now ≤ 96 }
-    requires counts { length counts.old ≡ length levels.now }
-    ensures from { first ≤ result }
-    ensures within { result < end }
-{
-    if first + 1 < end {
-        for i in first..end {
+    if depth + 1 < end {
+        for i in depth..end {
             counts[i] = n_keys(tracks, depth, levels[i].label, reads);
         }
     }
-    let chosen = choose(&counts[first..end], &ALLOWED[..end - first]);
-    first + chosen.unwrap_or(0)
+    let first = choose(&counts[depth..end], &ALLOWED[..end - depth]);
+    depth + first.unwrap_or(0)
 }
 
-/// The label with the fewest keys of those that don't tell rows apart, if the last label of those that do has had as many
-/// keys tried since the last row. It is looked for at the second, the fourth, the eighth try and so on.
-fn tested<O: Operand, W: Ledger>(
-    tracks: &[Track<O>],
-    levels: &[Level],
-    last: usize,
-    told: usize,
-    tries: &mut u64,
-    counts: &mut [u64],
-    reads: &mut Steps<W>,
-) -> Option<u8>
-    requires room { (i : ℕ) (t : _) → i < length tracks.now → last < length (slice_index_or tracks.now i t).parts.items }
-    requires parts { (i : ℕ) (t : _) (p : _) → i < length tracks.now → IsPart O.depth_of O.tuples (part_at tracks.now last i t p) }
-    requires last { last < length levels.now }
-    requires told { told ≤ length levels.now }
-    requires few { length levels.now ≤ 96 }
-    requires counts { length counts.old ≡ length levels.now }
-    requires labels { (i : ℕ) (f : _) → i < length levels.now → (slice_index_or levels.now i f).label < length levels.now }
-    ensures label { IfSome result (λ l. l < length levels.now) }
-    ensures before { IfSome result (λ _. last + 1 < length levels.now) }
+/// How many keys were tried where a label is opened at this depth: none of one that tells rows apart.
+fn tries_opened(depth: usize, told: usize, tries: u64) -> u64 {
+    if depth < told { 0 } else { tries }
+}
+
+/// One more, where the label that goes on is the last one that tells rows apart.
+fn tries_more(depth: usize, told: usize, tries: u64) -> u64 {
+    if depth == told {
+        tries.saturating_add(1)
+    } else {
+        tries
+    }
+}
+
+/// The first level whose label the next key of the last one is looked for through, if any is. These labels don't tell rows
+/// apart and stand behind all that do. They are gone through at the second, the fourth, the eighth key that is tried
+/// without a row, and so on.
+fn first_tested(last: usize, told: usize, n: usize, tries: u64) -> usize
+    requires last { last < n }
+    requires told { told ≤ n }
+    ensures within { result ≤ n }
+    ensures before { result < n → last + 1 < n }
 {
-    if last + 1 != told || told == levels.len() {
-        return None;
+    if last + 1 == told && tries > 1 && tries.is_power_of_two() {
+        told
+    } else {
+        n
     }
-    *tries = tries.saturating_add(1);
-    if *tries < 2 || !tries.is_power_of_two() {
-        return None;
-    }
-    let place = fewest(tracks, levels, last, told, levels.len(), counts, reads);
-    let label = levels[place].label;
-    if *tries < n_keys(tracks, last, label, reads) {
-        return None;
-    }
-    *tries = 0;
-    Some(label)
 }
 
 /// Leaves so many rows out. False where fewer are to come.

@@ -17,7 +17,7 @@ loop-start-preserved g c =
     subst (AreThrough g.O.Operand.tuples c.args.tracks.now c.least_at-found.new.tracks c.args.depth c.args.label c.args.other c.args.from.0 (from_of c.after.result)) (sym c.lesser-best.ensures)
     (through-more g.O.Operand.depth_of g.O.Operand.tuples g.met.O.Operand.deep c.args.tracks.now c.loop-start.tracks c.args.depth c.args.label c.args.other c.args.from.0 (from_of c.loop-start.start) c.loop-start.best
     c.loop-start.auto.tracks c.requires.parts c.loop-start.invariant c.in-Some-next_key.key.0 (from_of c.after.result) c.least_at-found.result c.least_at-found.new.tracks
-    c.after.ensures
+    c.after.ensures.next
     (λ x le admit. subst (λ b. IsReached b x) c.in-Some-next_key.is (c.next_key.ensures.least x (let is = ap from_of c.in-Some.is in omega (arith, is, le)) admit))
     c.least_at-found.ensures.same c.least_at-found.ensures.from c.least_at-found.ensures.least)
 

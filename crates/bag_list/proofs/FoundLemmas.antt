@@ -33,7 +33,6 @@ use Rattle.bag_list.specs.Levels.{agrees, at_key, coming, from_of, is_below, lev
 use Rattle.bag_list.specs.Search.{AreKept, id_solutions, ids_below, numbers}
 use Rattle.bag_list.specs.Tracks.{rests, unfixed}
 use Rattle.bag_list.proofs.ComingLemmas.{coming-all, coming-append}
-use Rattle.bag_list.proofs.GoLemmas.{any-at}
 use Rattle.bag_list.proofs.Images.{at-is_at, has-slice, is_at-at, length-without, mask-none}
 use Rattle.bag_list.proofs.MemberLemmas.{IsMember, all-left, all-members, any-unfixed, below-at}
 use Rattle.bag_list.proofs.Places.{append_none, permutation-equal}
@@ -47,6 +46,13 @@ pub record IsFound (telling : ℕ → Bool) (old new : List (List ℕ)) (a : Lis
   pub alike : AllByRecursion (λ b. (l : ℕ) → telling l ≡ true → at l b ≡ at l a) others
   pub none : ((l : ℕ) → telling l ≡ true) → others ≡ []
   pub apart : AllByRecursion (λ b. (l : ℕ) × (telling l ≡ true) × (at l b ≡ at l a → ⊥)) new
+
+-- a label that stands among those of the levels stands at one of them
+any-at : (l : ℕ) (fs : List Level) → list_any (nat_eq l) (level_labels fs) ≡ true → (j : ℕ) × (j < length fs) × ((f : Level) → l ≡ (slice_index_or fs j f).label)
+any-at l [] e = absurd (let f : ⊥ = cc in f)
+any-at l (g ∷ fs) e = or_cases (nat_eq l g.label) (list_any (nat_eq l) (level_labels fs)) e _
+    (λ here. (0, (let z : 0 < length (g ∷ fs) = omega arith in z), λ f. exact_numbers.is l g.label here))
+    (λ later. let h = any-at l fs later in (suc h.0, (let lt = h.1 in let z : suc h.0 < length (g ∷ fs) = omega (arith, lt) in z), h.2))
 
 -- ---- all numbers of ids
 

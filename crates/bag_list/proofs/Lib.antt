@@ -8,6 +8,7 @@ pub mod ComingLemmas
 pub mod WeightLemmas
 pub mod SearchLemmas
 pub mod MemberLemmas
+pub mod ThroughLemmas
 pub mod GoLemmas
 pub mod FoundLemmas
 pub mod BeginLemmas

@@ -5,19 +5,18 @@ use Rattle.std.specs.List.{AllByRecursion, flat_map, list_any, range_with_len}
 use Rattle.std.specs.Ordering.{nat_cmp}
 use Rattle.hypertrie_model.specs.IdSets.{IdSet}
 use Rattle.hypertrie_model.specs.Sets.{has, HasDepth}
-use Rattle.hypertrie_model.specs.SetLaws.{and_both, or_cases}
+use Rattle.hypertrie_model.specs.SetLaws.{and_both}
 use Rattle.hypertrie_model.specs.Slices.{at}
 use Rattle.bag_model.specs.ListLaws.{any-filter}
-use Rattle.bag_model.specs.Solutions.{Rest, HaveLabels, assignments, image, is_solution}
+use Rattle.bag_model.specs.Solutions.{Rest, assignments, image, is_solution}
 use Rattle.bag_list.specs.declared.level.Level.{Level}
-use Rattle.bag_list.specs.declared.track.Part.{Part}
 use Rattle.bag_list.specs.declared.track.Track.{Track}
-use Rattle.bag_list.specs.Labels.{labels_of, mask_of, without}
+use Rattle.bag_list.specs.Labels.{labels_of, without}
 use Rattle.bag_list.specs.Levels.{agrees, is_below, level_labels, within}
 use Rattle.bag_list.specs.Search.{id_solutions, ids_below}
-use Rattle.bag_list.specs.Tracks.{AllAdmitAt, AreTracks, part_at, rests, unfixed}
+use Rattle.bag_list.specs.Tracks.{AllAdmitAt, AreTracks, HasSolutionAt, part_at, rests, unfixed}
 use Rattle.bag_list.proofs.ComingLemmas.{all-append, all-filtered, all-weaker, within-all}
-use Rattle.bag_list.proofs.Images.{image-admits, mask-some}
+use Rattle.bag_list.proofs.Images.{image-admits}
 use Rattle.bag_list.proofs.SearchLemmas.{exact_numbers}
 use Rattle.bag_list.proofs.TrackLemmas.{part-deep}
 
@@ -89,13 +88,6 @@ solution-at tuples [] a i t e lt = absurd (omega (arith, lt))
 solution-at tuples (s ∷ tracks) a zero t e lt = (and_both (has (tuples s.start.op) (image a (labels_of s.start.labels))) (is_solution nat_cmp (rests tuples tracks) a) e).0
 solution-at tuples (s ∷ tracks) a (suc i) t e lt = solution-at tuples tracks a i t (and_both (has (tuples s.start.op) (image a (labels_of s.start.labels))) (is_solution nat_cmp (rests tuples tracks) a) e).1 (omega (arith, lt))
 
--- some pattern has the label
-has-label : {O : Type 0} (tuples : O → IdSet) (tracks : List (Track O)) (l : ℕ) → list_any (λ r. list_any (nat_eq l) r.labels) (rests tuples tracks) ≡ true → (i : ℕ) × (i < length tracks) × ((t : Track O) → list_any (nat_eq l) (labels_of (slice_index_or tracks i t).start.labels) ≡ true)
-has-label tuples [] l e = absurd (let f : ⊥ = cc in f)
-has-label tuples (s ∷ tracks) l e = or_cases (list_any (nat_eq l) (labels_of s.start.labels)) (list_any (λ r. list_any (nat_eq l) r.labels) (rests tuples tracks)) e _
-    (λ here. (0, (let z : 0 < length (s ∷ tracks) = omega arith in z), λ t. here))
-    (λ later. let h = has-label tuples tracks l later in (suc h.0, (let lt = h.1 in let z : suc h.0 < length (s ∷ tracks) = omega (arith, lt) in z), h.2))
-
 module _ {O : Type 0} (depth_of : O → ℕ) (tuples : O → IdSet) (deep : (o : O) → HasDepth (depth_of o) (tuples o)) (n m last : ℕ) (levels : List Level) (tracks : List (Track O)) (are : AreTracks depth_of tuples n m levels tracks) (low : last < m) (before : last ≤ n - 1) where
   -- a solution that has the keys of the levels has at a further label a key that all patterns admit
   pub solution-admits : (a : List ℕ) (l q : ℕ) → is_solution nat_cmp (rests tuples tracks) a ≡ true → agrees (take last levels) a ≡ true → at l a ≡ Some q → AllAdmitAt tuples tracks last l q
@@ -105,16 +97,12 @@ module _ {O : Type 0} (depth_of : O → ℕ) (tuples : O → IdSet) (deep : (o :
       image-admits l q a at_l (tuples x.op) (labels_of x.labels) (part-deep depth_of tuples deep x left.part)
       (left.image a agreed ∙ solution-at tuples tracks a i t solution lt)
 
-  -- some pattern has a label that isn't fixed
-  pub label-left : (l : ℕ) → HaveLabels nat_cmp n (rests tuples tracks) → l < n → list_any (nat_eq l) (level_labels (take last levels)) ≡ false → (i : ℕ) × (i < length tracks) × ((t : Track O) (p : Part O) → 1 ≤ mask_of l (labels_of (part_at tracks last i t p).labels))
-  label-left l have lt free =
-      let h = has-label tuples tracks l (have l lt) in (
-        h.0,
-        h.1,
-        λ t p.
-            let left = (are h.0 t h.1).left last p low before in
-            mask-some l (labels_of (part_at tracks last h.0 t p).labels)
-            (ap (list_any (nat_eq l)) left.labels
-            ∙ any-unfixed l (take last levels) (labels_of (slice_index_or tracks h.0 t).start.labels)
-            ∙ (λ j. h.2 t j && not (free j))),
-      )
+  -- it is a solution of what is left
+  pub solution-left : (a : List ℕ) (l q : ℕ) → IsMember n (rests tuples tracks) a → agrees (take last levels) a ≡ true → at l a ≡ Some q → HasSolutionAt tuples n tracks last l q
+  solution-left a l q member agreed at_l = record {
+    solution = a;
+    long = member.long;
+    ids = member.ids;
+    key = at_l;
+    holds = λ i t p lt. ((are i t lt).left last p low before).image a agreed ∙ solution-at tuples tracks a i t member.solution lt;
+  }

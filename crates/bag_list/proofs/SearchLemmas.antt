@@ -119,6 +119,16 @@ module _ {O : Type 0} (depth_of : O → ℕ) (tuples : O → IdSet) where
     left = λ j p lt before. subst (λ hs. IsLeft depth_of tuples hs t.start (slice_index_or t.parts.items j p)) (sym (same j lt)) (is.left j p (omega (arith, le, lt)) before);
   }
 
+  -- a pattern with the same parts
+  track-same : (n m last : ℕ) (fs : List Level) (s t : Track O) → m ≤ last + 1 → IsSameTo last s t → IsTrack depth_of tuples n m fs s → IsTrack depth_of tuples n m fs t
+  track-same n m last fs s t le alike is = record {
+    room = alike.room ∙ is.room;
+    below = subst (λ x. AllByRecursion (λ l. l < n) (labels_of x.labels)) (sym alike.start) is.below;
+    left = λ j p lt in_all.
+        subst (λ x. IsLeft depth_of tuples (take j fs) x (slice_index_or t.parts.items j p)) (sym alike.start)
+        (subst (λ q. IsLeft depth_of tuples (take j fs) s.start q) (sym (alike.parts j p (omega (arith, lt, le)))) (is.left j p lt in_all));
+  }
+
   -- a level more
   track-entered : (n last : ℕ) (fs gs : List Level) (g : Level) (s t : Track O) (b : Bool) → ((j : ℕ) → j ≤ last → take j gs ≡ take j fs) → take (last + 1) gs ≡ take last fs ++ g ∷ [] → IsSameTo last s t → (b ≡ true → last + 1 ≤ n - 1 → (p : Part O) → IsFixed depth_of tuples g.label g.key.0 (slice_index_or s.parts.items last p) (slice_index_or t.parts.items (last + 1) p)) → IsTrack depth_of tuples n (last + 1) fs s → IsTrack depth_of tuples n (last + 1 + n_fresh b) gs t
   track-entered n last fs gs g s t b same more alike fixed is = record {
@@ -242,8 +252,23 @@ module _ {O : Type 0} (depth_of : O → ℕ) (tuples : O → IdSet) (telling : �
     admitted = λ e. absurd (let f : ⊥ = cc in f);
   }
 
+  -- patterns with the same parts
+  pub kept-same : (last : ℕ) (now : List (Track O)) → length now ≡ length tracks → ((i : ℕ) (t : Track O) → i < length tracks → IsSameTo last (slice_index_or tracks i t) (slice_index_or now i t)) → AreKept depth_of tuples telling levels (last + 1) false told tracks values → AreKept depth_of tuples telling levels (last + 1) false told now values
+  kept-same last now n_now same kept = record {
+    within = kept.within;
+    labels = kept.labels;
+    first = kept.first;
+    told_within = kept.told_within;
+    patterns = λ i t lt. let lt_old : i < length tracks = omega (arith, lt, n_now) in track-same depth_of tuples (length levels) (last + 1 + n_fresh false) last levels (slice_index_or tracks i t) (slice_index_or now i t) (omega arith) (same i t lt_old) (kept.patterns i t lt_old);
+    labelled = λ some. subst (HaveLabels nat_cmp (length levels)) (sym (rests-same tuples tracks now n_now (λ i t lt. (same i t lt).start))) (kept.labelled some);
+    n_values = kept.n_values;
+    keys = kept.keys;
+    tried = kept.tried;
+    admitted = λ e. absurd (let f : ⊥ = cc in f);
+  }
+
   -- the last label has its next key
-  pub kept-entered : (last : ℕ) (g : Level) (now : List (Track O)) (fresh : Bool) → AreKept depth_of tuples telling levels (last + 1) false told tracks values → ((f : Level) → g.label ≡ (slice_index_or levels last f).label) → from_of g.from ≡ g.key.0 + 1 → g.key.0 < 2 ^ 32 → length now ≡ length tracks → ((i : ℕ) (t : Track O) → i < length tracks → IsSameTo last (slice_index_or tracks i t) (slice_index_or now i t)) → (fresh ≡ true → last + 1 ≤ length levels - 1 → (i : ℕ) (t : Track O) (p : Part O) → i < length tracks → IsFixed depth_of tuples g.label g.key.0 (part_at tracks last i t p) (part_at now (last + 1) i t p)) → AllAdmitAt tuples tracks last g.label g.key.0 → AreKept depth_of tuples telling (slice_set levels last g) (last + 1) fresh told now (slice_set values g.label g.key)
+  pub kept-entered : (last : ℕ) (g : Level) (now : List (Track O)) (fresh : Bool) → AreKept depth_of tuples telling levels (last + 1) false told tracks values → ((f : Level) → g.label ≡ (slice_index_or levels last f).label) → from_of g.from ≡ g.key.0 + 1 → g.key.0 < 2 ^ 32 → length now ≡ length tracks → ((i : ℕ) (t : Track O) → i < length tracks → IsSameTo last (slice_index_or tracks i t) (slice_index_or now i t)) → (fresh ≡ true → last + 1 ≤ length levels - 1 → (i : ℕ) (t : Track O) (p : Part O) → i < length tracks → IsFixed depth_of tuples g.label g.key.0 (part_at tracks last i t p) (part_at now (last + 1) i t p)) → (length levels ≡ last + 1 → AllAdmitAt tuples tracks last g.label g.key.0) → AreKept depth_of tuples telling (slice_set levels last g) (last + 1) fresh told now (slice_set values g.label g.key)
   kept-entered last g now fresh kept label next small n_now same fixed admit =
       let long = length-set levels last g in
       let w = kept.within in
@@ -274,12 +299,12 @@ module _ {O : Type 0} (depth_of : O → ℕ) (tuples : O → IdSet) (telling : �
               subst (λ i. IsTried (slice_index_or (slice_set levels last g) i f)) is
               (subst IsTried (sym (get_or-set_same levels last g f within)) (omega (arith, next), small))
         ];
-        admitted = λ _ end f is _ i t p lt.
+        admitted = λ _ end f is whole i t p lt.
             let same_end : last ≡ end = omega (arith, is) in
             subst (λ e. AdmitsAt tuples (slice_index_or (slice_set levels last g) e f).label (part_at now e i t p) (slice_index_or (slice_set levels last g) e f).key.0) same_end
             (subst (λ h. AdmitsAt tuples h.label (part_at now last i t p) h.key.0) (sym (get_or-set_same levels last g f within))
             (let lt_old : i < length tracks = omega (arith, lt, n_now) in
-            subst (λ q. AdmitsAt tuples g.label q g.key.0) (sym ((same i t lt_old).parts last p (omega arith))) (admit i t p lt_old)));
+            subst (λ q. AdmitsAt tuples g.label q g.key.0) (sym ((same i t lt_old).parts last p (omega arith))) (admit (omega (arith, whole, long, is)) i t p lt_old)));
       } where
         fresh_most : (b : Bool) → n_fresh b ≤ 1
         fresh_most true = omega arith

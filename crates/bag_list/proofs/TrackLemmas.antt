@@ -1,27 +1,27 @@
 -- What is left of patterns once a label is fixed, and the keys that are left for it.
-use Rattle.std.specs.Prelude.{◌≡◌, ◌≢◌, ℕ, ◌+◌, ◌<◌, ◌≤◌, ◌^◌, true, List, [], ◌∷◌, ◌++◌, length, take, slice_index_or, refl, Option, None, Some, IfSome}
+use Rattle.std.specs.Prelude.{◌≡◌, ◌≢◌, ℕ, ◌+◌, ◌<◌, ◌≤◌, List, [], ◌∷◌, ◌++◌, length, take, slice_index_or, refl, Option, None, Some, IfSome, IsNone}
 use Rattle.std.proofs.Common.{sym, ◌∙◌, ap, subst, arith}
 use Rattle.std.specs.Ordering.{nat_cmp}
 use Rattle.hypertrie_model.specs.IdSets.{IdSet}
 use Rattle.hypertrie_model.specs.Sets.{has, empty, HasDepth}
 use Rattle.hypertrie_model.specs.Slices.{slice_at_mask}
 use Rattle.trie_depth.specs.Masks.{FitsDepth, n_positions}
-use Rattle.trie_depth.specs.Operands.{Admits, IsIdTuple}
-use Rattle.trie_depth.specs.OperandLaws.{admits-small}
+use Rattle.trie_depth.specs.Operands.{Admits}
 use Rattle.bag_model.specs.Solutions.{image}
 use Rattle.key_join.specs.Common.{AllFit, AllAdmit}
+use Rattle.key_join.specs.Least.{IsLeastFrom}
 use Rattle.trie_depth.specs.declared.id.Id.{Id}
 use Rattle.trie_depth.specs.declared.mask.Mask.{Mask}
 use Rattle.bag_list.specs.declared.labels.Labels.{Labels}
 use Rattle.bag_list.specs.declared.track.Part.{Part}
 use Rattle.bag_list.specs.declared.track.Track.{Track}
 use Rattle.bag_list.specs.Labels.{placed, labels_of, mask_of, without}
-use Rattle.bag_list.specs.Tracks.{AdmitsAt, AllAdmitAt, IsFixed, IsPart, IsSameTo, part_at}
+use Rattle.bag_list.specs.Tracks.{AdmitsAt, IsFixed, IsPart, IsSameTo, part_at}
 use Rattle.std.proofs.lemmas.List.{get_or_append_left, get_or_default, get_or_push, get_or-set_same, get_or-set_other, take_more_set, length-append, length-take-le}
 use Rattle.std.specs.Prelude.{slice_set}
 use native.Mathlib.Decide.{dec_lt}
 use Rattle.bag_list.proofs.Images.{has-slice, at-is_at, mask-fits, positions-left}
-use Rattle.bag_list.proofs.Places.{both_more, element, to_next}
+use Rattle.bag_list.proofs.Places.{both_more, to_next}
 
 placed-short : (p q r : Option ℕ) → length (placed (p ∷ q ∷ r ∷ [])) ≤ 3
 placed-short None None None = omega arith
@@ -57,9 +57,6 @@ module _ {O : Type 0} (depth_of : O → ℕ) (tuples : O → IdSet) (deep : (o :
         (λ j. has ((slice ∙ ap (λ i. slice_at_mask nat_cmp (tuples p.op) i k) mask) j) (image a (labels j)))
         ∙ has-slice l k a (at-is_at l k a here) (tuples p.op) (labels_of p.labels) (part-deep p is);
   }
-
-  pub admitted-small : (small : (o : O) (t : List ℕ) → has (tuples o) t ≡ true → IsIdTuple t) (l k : ℕ) (p : Part O) → IsPart depth_of tuples p → 1 ≤ mask_of l (labels_of p.labels) → AdmitsAt tuples l p k → k < 2 ^ 32
-  admitted-small small l k p is some admits = admits-small (tuples p.op) (length (labels_of p.labels)) (mask_of l (labels_of p.labels)) k (part-deep p is) (small p.op) (mask-fits l (labels_of p.labels) some) (admits some)
 
 -- ---- one pattern after another
 
@@ -188,21 +185,24 @@ gathered_equal depth_of tuples tracks depth l ops ops' masks masks' count count'
     (subst (λ m. AreGathered depth_of tuples tracks depth l ops m count' i) (sym m)
     (subst (λ n. AreGathered depth_of tuples tracks depth l ops masks n i) (sym n) h))
 
-module _ {O : Type 0} (depth_of : O → ℕ) (tuples : O → IdSet) (deep : (o : O) → HasDepth (depth_of o) (tuples o)) (small : (o : O) (t : List ℕ) → has (tuples o) t ≡ true → IsIdTuple t) (tracks : List (Track O)) (depth l k : ℕ) where
-  -- every key that is admitted is the number of an id
-  pub not_past : ((i : ℕ) (t : Track O) → i < length tracks → depth < length (slice_index_or tracks i t).parts.items) → ((i : ℕ) (t : Track O) (p : Part O) → i < length tracks → IsPart depth_of tuples (part_at tracks depth i t p)) → ((i : ℕ) × (i < length tracks) × ((t : Track O) (p : Part O) → 1 ≤ mask_of l (labels_of (part_at tracks depth i t p).labels))) → 2 ^ 32 ≤ k → AllAdmitAt tuples tracks depth l k → ⊥
-  not_past room parts some le admit =
-      let t = element tracks some.0 some.1 in
-      let p = element (slice_index_or tracks some.0 t).parts.items depth (room some.0 t some.1) in
-      let lt = admitted-small depth_of tuples deep small l k (part_at tracks depth some.0 t p) (parts some.0 t p some.1) (some.2 t p) (admit some.0 t p some.1) in
-      omega (arith, le, lt)
+-- ---- the least key
 
--- what is said of a key that was found says more
-pub weaker_found : (r : Option Id) (P Q : ℕ → Type 0) → ((k : ℕ) → P k → Q k) → IfSome r (λ r. P r.0) → IfSome r (λ r. Q r.0)
-weaker_found None P Q into h = tt
-weaker_found (Some r) P Q into h = into r.0 h
+-- the least key of which P holds, where P and Q say the same
+pub least-found : (b : Option Id) (from : ℕ) (P Q : ℕ → Type 0) → ((k : ℕ) → P k → Q k) → ((k : ℕ) → Q k → P k) → (IsNone b → (k : ℕ) → from ≤ k → P k → ⊥) → IfSome b (λ r. P r.0) → IfSome b (λ r. from ≤ r.0) → IfSome b (λ r. (k : ℕ) → from ≤ k → k < r.0 → P k → ⊥) → IsLeastFrom from Q b
+least-found None from P Q into back none there above least = record {
+  there = tt;
+  above = tt;
+  least = λ k le q. none refl k le (back k q);
+}
+least-found (Some r) from P Q into back none there above least = record {
+  there = into r.0 there;
+  above = above;
+  least = λ k le q. elim (dec_lt k r.0) as (λ _. r.0 ≤ k) [
+    | yes lt ↦ absurd (least k le lt (back k q))
+    | no ge ↦ omega (arith, ge)
+  ];
+}
 
--- the least key of which less holds, from the same number on
-pub weaker_least : (r : Option Id) (a b : ℕ) (P Q : ℕ → Type 0) → a ≡ b → ((k : ℕ) → Q k → P k) → IfSome r (λ r. (k : ℕ) → b ≤ k → k < r.0 → P k → ⊥) → IfSome r (λ r. (k : ℕ) → a ≤ k → k < r.0 → Q k → ⊥)
-weaker_least None a b P Q is into h = tt
-weaker_least (Some r) a b P Q is into h = λ k le lt q. h k (omega (arith, is, le)) lt (into k q)
+-- where it holds of the number itself
+pub least-itself : (r : Id) (P : ℕ → Type 0) → P r.0 → IsLeastFrom r.0 P (Some r)
+least-itself r P here = record { there = here; above = omega arith; least = λ k le _. le }

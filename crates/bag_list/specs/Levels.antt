@@ -1,5 +1,5 @@
 -- Which assignments of a list are still to come, where labels are fixed one after another.
-use Rattle.std.specs.Prelude.{ℕ, zero, suc, ◌^◌, ◌&&◌, ◌||◌, Bool, true, false, not, nat_lt, nat_eq, List, [], ◌∷◌, ◌++◌, map, Option, None, Some, cond}
+use Rattle.std.specs.Prelude.{ℕ, zero, suc, ◌^◌, ◌&&◌, ◌||◌, Bool, true, false, not, nat_lt, nat_eq, ◌<◌, List, [], ◌∷◌, ◌++◌, length, map, slice_index_or, Option, None, Some, cond}
 use Rattle.std.specs.List.{filter, list_any}
 use Rattle.std.specs.Ordering.{nat_cmp}
 use Rattle.hypertrie_model.specs.Slices.{is_at}
@@ -10,6 +10,12 @@ use Rattle.bag_list.specs.declared.level.Level.{Level}
 abbrev pub from_of : Option Id → ℕ
 from_of None = 2 ^ 32
 from_of (Some k) = k.0
+
+-- the lesser of two keys, where there are two
+abbrev pub lesser_of : Option Id → Option Id → Option Id
+lesser_of None b = b
+lesser_of (Some x) None = Some x
+lesser_of (Some x) (Some y) = cond (nat_lt y.0 x.0) (Some y) (Some x)
 
 -- whether the element of label l is there and below k
 abbrev pub is_below : ℕ → ℕ → List ℕ → Bool
@@ -45,6 +51,10 @@ agrees (f ∷ fs) a = is_at nat_cmp f.label f.key.0 a && agrees fs a
 
 abbrev pub level_labels : List Level → List ℕ
 level_labels fs = map (λ f. f.label) fs
+
+-- each level has a label below n
+abbrev pub AreBelow : ℕ → List Level → Type 0
+AreBelow n fs = (i : ℕ) (f : Level) → i < length fs → (slice_index_or fs i f).label < n
 
 -- one level more where nothing below it was gone through
 abbrev pub n_fresh : Bool → ℕ

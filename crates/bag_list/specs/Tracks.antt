@@ -1,10 +1,10 @@
 -- What is left of a pattern while labels are fixed.
-use Rattle.std.specs.Prelude.{◌≡◌, ◌≢◌, ℕ, ◌+◌, ◌-◌, ◌<◌, ◌≤◌, true, List, [], ◌∷◌, length, map, take, slice_index_or, Option, None, Some, IfSome}
+use Rattle.std.specs.Prelude.{◌≡◌, ◌≢◌, ℕ, ◌+◌, ◌-◌, ◌^◌, ◌<◌, ◌≤◌, true, List, [], ◌∷◌, length, map, take, slice_index_or, Option, None, Some, IfSome}
 use Rattle.std.specs.List.{AllByRecursion}
 use Rattle.std.specs.Ordering.{nat_cmp}
 use Rattle.hypertrie_model.specs.IdSets.{IdSet}
 use Rattle.hypertrie_model.specs.Sets.{has, empty}
-use Rattle.hypertrie_model.specs.Slices.{is_at}
+use Rattle.hypertrie_model.specs.Slices.{at, is_at}
 use Rattle.trie_depth.specs.Operands.{Admits}
 use Rattle.bag_model.specs.Solutions.{Rest, image}
 use Rattle.bag_list.specs.declared.level.Level.{Level}
@@ -48,6 +48,18 @@ module _ {O : Type 0} (tuples : O → IdSet) where
   -- each pattern that has the label l after so many levels admits k there
   abbrev pub AllAdmitAt : List (Track O) → ℕ → ℕ → ℕ → Type 0
   AllAdmitAt tracks depth l k = (i : ℕ) (t : Track O) (p : Part O) → i < length tracks → AdmitsAt l (part_at tracks depth i t p) k
+
+  -- the assignment gives each pattern, as it is after so many levels, one of its tuples
+  abbrev pub AllHold : List (Track O) → ℕ → List ℕ → Type 0
+  AllHold tracks depth a = (i : ℕ) (t : Track O) (p : Part O) → i < length tracks → has (tuples (part_at tracks depth i t p).op) (image a (labels_of (part_at tracks depth i t p).labels)) ≡ true
+
+  -- what so many levels leave has a solution of n ids with k at the label l
+  pub record HasSolutionAt (n : ℕ) (tracks : List (Track O)) (depth l k : ℕ) : Type 0 where
+    pub solution : List ℕ
+    pub long : length solution ≡ n
+    pub ids : AllByRecursion (λ x. x < 2 ^ 32) solution
+    pub key : at l solution ≡ Some k
+    pub holds : AllHold tracks depth solution
 
   -- the set of a start, empty where it has no operand
   abbrev pub start_set : Option O → IdSet

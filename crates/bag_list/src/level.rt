@@ -1,5 +1,5 @@
 //! The labels in the order in which they are fixed.
-ghost use Rattle.std.specs.Prelude.{◌≡◌, ◌+◌, ◌++◌, true, false, length, IfOk, OnOk};
+ghost use Rattle.std.specs.Prelude.{◌≡◌, ◌+◌, ◌^◌, ◌≤◌, ◌++◌, true, false, length, IfOk, OnOk};
 ghost use Rattle.std.specs.List.{filter, range_with_len};
 ghost use Rattle.bag_list.specs.Levels.{from_of, level_labels, tells, is_telling};
 
@@ -16,7 +16,8 @@ pub struct Level {
 
 /// The Id behind a key, if there is one.
 pub fn after(key: Id) -> Option<Id>
-    ensures { from_of result ≡ key.0 + 1 }
+    ensures next { from_of result ≡ key.0 + 1 }
+    ensures within { from_of result ≤ 2 ^ 32 }
 {
     if key.0 == u32::MAX {
         None

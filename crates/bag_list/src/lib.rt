@@ -7,6 +7,7 @@ mod labels;
 mod level;
 mod lister;
 mod search;
+mod through;
 mod track;
 
 pub use lister::{Lister, whole_listings};

@@ -1,5 +1,5 @@
 //! The search for solutions. Labels are fixed one after another, and the last one goes on to its next key.
-ghost use Rattle.std.specs.Prelude.{◌≡◌, ◌<◌, ◌≤◌, ℕ, true, false, List, [], ◌∷◌, ◌++◌, IsTrue, IfOk, IfSome, length, slice_index_or};
+ghost use Rattle.std.specs.Prelude.{◌≡◌, ◌+◌, ◌<◌, ◌≤◌, ℕ, true, false, List, [], ◌∷◌, ◌++◌, IsTrue, IfOk, IfSome, length, slice_index_or};
 ghost use Rattle.std.specs.List.{AllByRecursion};
 ghost use Rattle.std.specs.List.Sorted.{IsPermutation};
 ghost use Rattle.std.specs.Ordering.{nat_cmp};
@@ -9,7 +9,8 @@ ghost use Rattle.bag_list.specs.Search.{IsKept, IsSameQuery, coming_of, id_solut
 ghost use Rattle.bag_list.specs.Tracks.{IsPart, IsStart, part_at, rests_of};
 
 use crate::level::{Level, after, levels_of};
-use crate::track::{Start, Track, enter_next, n_keys, next_key, ops_of, tracks_of};
+use crate::through::next_left;
+use crate::track::{Start, Track, enter_next, n_keys, ops_of, tracks_of};
 use query_plan::choose;
 use std::alloc::Global;
 use std::sync::ledger::Ledger;
@@ -35,6 +36,8 @@ pub struct Search<O: Operand> {
     pub ops: Vec<O>,
     pub masks: Vec<Mask>,
     pub counts: Vec<u64>,
+    /// How many keys of the last label that tells rows apart were tried since the last row.
+    pub tries: u64,
 }
 
 impl<O: Operand> Search<O> {
@@ -73,6 +76,7 @@ impl<O: Operand> Search<O> {
             ops,
             masks,
             counts,
+            tries: 0,
         })
     }
 
@@ -95,6 +99,7 @@ impl<O: Operand> Search<O> {
             } else {
                 self.fresh = false;
                 self.depth = self.told;
+                self.tries = 0;
                 return true;
             }
         }
@@ -125,6 +130,7 @@ impl<O: Operand> Search<O> {
             key: self.values[usize::from(label)],
             from: Some(Id(0)),
         };
+        self.tries = tries_opened(self.depth, self.told, self.tries);
         self.depth += 1;
         self.fresh = false;
     }
@@ -140,12 +146,15 @@ impl<O: Operand> Search<O> {
         ensures less { steps_left self.new < steps_left self.old }
     {
         let last = self.depth - 1;
-        let Level { label, from, .. } = self.levels[last];
-        match next_key(
-            &self.tracks,
+        let label = self.levels[last].label;
+        self.tries = tries_more(self.depth, self.told, self.tries);
+        let first = first_tested(last, self.told, self.levels.len(), self.tries);
+        match next_left(
+            &mut self.tracks,
+            &self.levels,
             last,
-            label,
-            from,
+            first,
+            self.tries,
             &mut self.ops,
             &mut self.masks,
             reads,
@@ -192,6 +201,36 @@ fn choice<O: Operand, W: Ledger>(
     }
     let first = choose(&counts[depth..end], &ALLOWED[..end - depth]);
     depth + first.unwrap_or(0)
+}
+
+/// How many keys were tried where a label is opened at this depth: none of one that tells rows apart.
+fn tries_opened(depth: usize, told: usize, tries: u64) -> u64 {
+    if depth < told { 0 } else { tries }
+}
+
+/// One more, where the label that goes on is the last one that tells rows apart.
+fn tries_more(depth: usize, told: usize, tries: u64) -> u64 {
+    if depth == told {
+        tries.saturating_add(1)
+    } else {
+        tries
+    }
+}
+
+/// The first level whose label the next key of the last one is looked for through, if any is. These labels don't tell rows
+/// apart and stand behind all that do. They are gone through at the second, the fourth, the eighth key that is tried
+/// without a row, and so on.
+fn first_tested(last: usize, told: usize, n: usize, tries: u64) -> usize
+    requires last { last < n }
+    requires told { told ≤ n }
+    ensures within { result ≤ n }
+    ensures before { result < n → last + 1 < n }
+{
+    if last + 1 == told && tries > 1 && tries.is_power_of_two() {
+        told
+    } else {
+        n
+    }
 }
 
 /// Leaves so many rows out. False where fewer are to come.

@@ -1,8 +1,7 @@
 //! A pattern as it is while labels are fixed.
-ghost use Rattle.std.specs.Prelude.{◌≡◌, ◌+◌, ◌^◌, ◌<◌, ◌≤◌, ℕ, List, true, false, IsTrue, IsNone, IfSome, IfOk, length, take, slice_index_or, MatchOption};
+ghost use Rattle.std.specs.Prelude.{◌≡◌, ◌+◌, ◌<◌, ◌≤◌, ℕ, List, true, false, IsTrue, IsNone, IfSome, IfOk, length, take, slice_index_or, MatchOption};
 ghost use Rattle.key_join.specs.Common.{AllFit, AllAdmit};
-ghost use Rattle.bag_list.specs.Labels.{labels_of, mask_of};
-ghost use Rattle.bag_list.specs.Levels.{from_of};
+ghost use Rattle.key_join.specs.Least.{IsLeastFrom};
 ghost use Rattle.bag_list.specs.declared.level.Level.{Level};
 ghost use Rattle.bag_list.specs.Tracks.{AdmitsAt, AllAdmitAt, IsFixed, IsPart, IsSameTo, IsStart, AreTracks, HasEmpty, part_at, rests, rests_of};
 
@@ -91,7 +90,7 @@ fn fixed<O: Operand, W: Ledger>(
 }
 
 /// Fixes the label of a level at a key in every pattern. False where nothing is left of one.
-fn enter_all<O: Operand, W: Ledger>(
+pub fn enter_all<O: Operand, W: Ledger>(
     tracks: &mut [Track<O>],
     depth: usize,
     label: u8,
@@ -150,7 +149,6 @@ fn gather<O: Operand>(
     ensures fit { AllFit O.depth_of (take result ops.new) (take result masks.new) }
     ensures asked { (k : ℕ) → AllAdmitAt O.tuples tracks.now depth label k → AllAdmit O.tuples (take result ops.new) (take result masks.new) k }
     ensures whole { (k : ℕ) → AllAdmit O.tuples (take result ops.new) (take result masks.new) k → AllAdmitAt O.tuples tracks.now depth label k }
-    ensures some { ((i : ℕ) × (i < length tracks.now) × ((t : _) (p : _) → 1 ≤ mask_of label (labels_of (part_at tracks.now depth i t p).labels))) → 1 ≤ result }
 {
     let mut count = 0;
     for i in 0..tracks.len() {
@@ -171,7 +169,7 @@ pub fn next_key<O: Operand, W: Ledger>(
     tracks: &[Track<O>],
     depth: usize,
     label: u8,
-    from: Option<Id>,
+    from: Id,
     ops: &mut [O],
     masks: &mut [Mask],
     reads: &mut Steps<W>,
@@ -180,15 +178,12 @@ pub fn next_key<O: Operand, W: Ledger>(
     requires parts { (i : ℕ) (t : _) (p : _) → i < length tracks.now → IsPart O.depth_of O.tuples (part_at tracks.now depth i t p) }
     requires ops { length ops.old ≡ length tracks.now }
     requires masks { length masks.old ≡ length tracks.now }
-    requires some { (i : ℕ) × (i < length tracks.now) × ((t : _) (p : _) → 1 ≤ mask_of label (labels_of (part_at tracks.now depth i t p).labels)) }
-    ensures none { IsNone result → (k : ℕ) → from_of from ≤ k → AllAdmitAt O.tuples tracks.now depth label k → ⊥ }
-    ensures from { IfSome result (λ r. from_of from ≤ r.0) }
-    ensures small { IfSome result (λ r. r.0 < 2 ^ 32) }
-    ensures admitted { IfSome result (λ r. AllAdmitAt O.tuples tracks.now depth label r.0) }
-    ensures least { IfSome result (λ r. (k : ℕ) → from_of from ≤ k → k < r.0 → AllAdmitAt O.tuples tracks.now depth label k → ⊥) }
+    ensures { IsLeastFrom from.0 (AllAdmitAt O.tuples tracks.now depth label) result }
 {
-    let from = from?;
     let count = gather(tracks, depth, label, ops, masks);
+    if count == 0 {
+        return Some(from);
+    }
     next_common(&ops[..count], &masks[..count], from, reads)
 }
 

@@ -13,3 +13,7 @@ module _ {O : Type 0} where
   -- each operand admits k at the mask of its place
   abbrev pub AllAdmit : (O → IdSet) → List O → List Mask → ℕ → Type 0
   AllAdmit tuples ops masks k = (i : ℕ) (o : O) (m : Mask) → i < length ops → Admits (tuples (slice_index_or ops i o)) (slice_index_or masks i m).0 k
+
+  -- the operand at place i admits k at the mask there
+  abbrev pub AdmitsAt : (O → IdSet) → List O → List Mask → ℕ → ℕ → Type 0
+  AdmitsAt tuples ops masks i k = (o : O) (m : Mask) → Admits (tuples (slice_index_or ops i o)) (slice_index_or masks i m).0 k

@@ -25,8 +25,5 @@ loop-i-preserved g c =
           (gathered_same depth_of tuples tracks c.args.depth c.args.label c.loop-i.ops c.loop-i.masks c.loop-i.count i x q c.mask-mask.result is c.mask-mask.ensures c.loop-i.invariant w.if-mask-gt0.false)
     ]
 
-pub returns-clause-some : goal.returns-clause-some
-returns-clause-some g c s = c.loop-i.invariant.some s.0 (let lt = s.1 in omega (arith, lt)) s.2
-
 pub returns-clause-whole : goal.returns-clause-whole
 returns-clause-whole g c k admit i t p lt = c.loop-i.invariant.whole k admit i t p (omega (arith, lt, c.loop-i-test.false))

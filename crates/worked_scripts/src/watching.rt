@@ -22,6 +22,10 @@ const SCRIPT: &str =
 const REFUSED: &str =
     "LOAD\n# no command\n\nINSERT\n<x:a> <x:p> <x:b> .\nGO\nINSERT\n<x:a> <x:p> <x:c> .\n<x:a>\nGO\nDELETE\n<x:a> <x:p> <x:b> .\n";
 
+// Commands that change nothing, behind one that puts a triple in.
+const UNCHANGED: &str =
+    "INSERT\n<x:a> <x:p> <x:b> .\nGO\nINSERT\nGO\nSTATS\nSHAPE\nDUMP\nQUERY\nSELECT * { }\nGO\nQUERY\nGO\nGENERATE 0 1\nLOAD none\nUNLOAD none\n";
+
 // Runs a script whose write with this number fails, and keeps what a watch is shown.
 fn watched<M: Mix>(
     alloc: Global,
@@ -88,6 +92,14 @@ fn refused_commands_are_shown(rt: HostRuntime) -> Result<(), Fail> {
     let want: [&[&str]; 4] = [&[], &[B], &[B], &[B]];
     let (status, watch) = watched::<SplitMix>(rt.alloc(), REFUSED, 0)?;
     assert_eq!(rt; status, Status::SomeRefused);
+    assert!(rt; has_kept(&watch, &want));
+    Ok(())
+}
+
+#[test]
+fn commands_that_change_nothing_are_shown(rt: HostRuntime) -> Result<(), Fail> {
+    let want: [&[&str]; 10] = [&[B]; 10];
+    let (_, watch) = watched::<SplitMix>(rt.alloc(), UNCHANGED, 0)?;
     assert!(rt; has_kept(&watch, &want));
     Ok(())
 }

@@ -87,8 +87,8 @@ fn told<W: Ledger>(
     requires parts { blank.parts ≡ W.parts }
     requires whole { 0 < W.parts }
 {
-    let mut listing = Listing::make(alloc, graph, query)?;
     let mut reads = Steps::<W>::new(blank);
+    let mut listing = Listing::make(alloc, graph, query, &mut reads)?;
     let mut told = Vec::new(alloc);
     for _time in 0..4 {
         if listing.next(&mut reads).is_some() {

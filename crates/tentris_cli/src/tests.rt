@@ -1,8 +1,10 @@
-//! Reads of the file system: a file by its places, and what is no file.
+//! Reads of the file system, of a reader and writes to a writer, each with its faults.
 use crate::disk::Disk;
+use crate::standard::{Input, Output};
+use std::io::{self, Read, Write};
 use std::fs;
 use std::test::Fail;
-use tn_io::{Failed, Files};
+use tn_io::{Failed, Files, Sink, Source};
 
 #[test]
 fn reads_of_the_file_system(rt: HostRuntime) -> Result<(), Fail> {
@@ -32,4 +34,70 @@ fn reads_of_the_file_system(rt: HostRuntime) -> Result<(), Fail> {
         "a file that vanished"
     );
     Ok(())
+}
+
+/// Bytes whose first read fails.
+#[derive(Drop)]
+struct FailsFirst {
+    bytes: &'static [u8],
+    failed: bool,
+}
+
+impl Read for FailsFirst {
+    fn read(&mut self, buf: &mut [u8]) -> io::Result<usize> {
+        if !self.failed {
+            self.failed = true;
+            return Err(io::ErrorKind::Other.into());
+        }
+        self.bytes.read(buf)
+    }
+}
+
+#[test]
+fn reads_of_a_reader(rt: HostRuntime) {
+    let mut input = Input::new(FailsFirst {
+        bytes: b"INSERT",
+        failed: false,
+    });
+    let mut buf = [0u8; 4];
+    let reads: [Result<&[u8], Failed>; 4] = [Err(Failed), Ok(b"INSE"), Ok(b"RT"), Ok(b"")];
+    for want in reads {
+        let got = input.read(&mut buf);
+        assert_eq!(rt; got.map(|count| &buf[..count]), want);
+    }
+}
+
+/// A writer that takes four bytes a piece, and whose second write fails.
+#[derive(Drop)]
+struct FailsSecond {
+    got: Vec<u8>,
+    writes: u8,
+}
+
+impl Write for FailsSecond {
+    fn write(&mut self, buf: &[u8]) -> io::Result<usize> {
+        self.writes = self.writes.saturating_add(1);
+        if self.writes == 2 {
+            return Err(io::ErrorKind::Other.into());
+        }
+        let count = buf.len().min(4);
+        self.got.extend_from_slice(&buf[..count])?;
+        Ok(count)
+    }
+
+    fn flush(&mut self) -> io::Result<()> {
+        Ok(())
+    }
+}
+
+#[test]
+fn writes_to_a_writer(rt: HostRuntime) {
+    let mut writer = FailsSecond {
+        got: Vec::new(rt.alloc()),
+        writes: 0,
+    };
+    let mut output = Output::new(&mut writer);
+    let written = [output.write(b"ok dump 0\n"), output.write(b"ump 0\n"), output.write(b"ump 0\n")];
+    assert_eq!(rt; written, [Ok(4), Err(Failed), Ok(4)]);
+    assert_eq!(rt; writer.got.as_slice(), b"ok dump ".as_slice());
 }

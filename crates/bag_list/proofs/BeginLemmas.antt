@@ -15,7 +15,7 @@ use native.Mathlib.Decide.{dec_lt}
 use Rattle.hypertrie_model.specs.IdSets.{IdSet}
 use Rattle.hypertrie_model.specs.Sets.{has}
 use Rattle.trie_depth.specs.declared.id.Id.{Id}
-use Rattle.bag_model.specs.Solutions.{HaveLabels, assignments, image, is_solution}
+use Rattle.bag_model.specs.Solutions.{assignments, image, is_solution}
 use Rattle.bag_list.specs.declared.level.Level.{Level}
 use Rattle.bag_list.specs.declared.track.Start.{Start}
 use Rattle.bag_list.specs.declared.track.Track.{Track}
@@ -56,8 +56,8 @@ module _ {O : Type 0} (depth_of : O → ℕ) (tuples : O → IdSet) (columns : L
         flipped true e = sym e
         flipped false e = refl
 
-  pub kept-begun : (fresh : Bool) (tracks : List (Track O)) (values : List Id) → length values ≡ n → ((fs : List Level) → AreTracks depth_of tuples n 1 fs tracks) → (fresh ≡ true → HaveLabels nat_cmp n (rests tuples tracks)) → AreKept depth_of tuples (tells columns distinct) levels 0 fresh told tracks values
-  kept-begun fresh tracks values n_values are have = record {
+  pub kept-begun : (fresh : Bool) (tracks : List (Track O)) (values : List Id) → length values ≡ n → ((fs : List Level) → AreTracks depth_of tuples n 1 fs tracks) → AreKept depth_of tuples (tells columns distinct) levels 0 fresh told tracks values
+  kept-begun fresh tracks values n_values are = record {
     within = omega arith;
     labels = subst (λ m. IsPermutation (range_with_len 0 m) (level_labels levels)) (sym n-levels) all-labels;
     first = told-first;
@@ -66,7 +66,6 @@ module _ {O : Type 0} (depth_of : O → ℕ) (tuples : O → IdSet) (columns : L
         omega (arith, long, n_told);
     patterns = λ i t lt. subst (λ m. Rattle.bag_list.specs.Tracks.IsTrack depth_of tuples m (0 + n_fresh fresh) levels (slice_index_or tracks i t)) (sym n-levels)
         (track-levels depth_of tuples n 1 (0 + n_fresh fresh) levels levels (slice_index_or tracks i t) (most fresh) (λ j _. refl) (are levels i t lt));
-    labelled = λ some. subst (λ m. HaveLabels nat_cmp m (rests tuples tracks)) (sym n-levels) (have (is_fresh fresh some));
     n_values = n_values ∙ sym n-levels;
     keys = λ j f k lt. absurd (omega (arith, lt));
     tried = λ j f lt. absurd (let m = most fresh in omega (arith, lt, m));
@@ -75,10 +74,6 @@ module _ {O : Type 0} (depth_of : O → ℕ) (tuples : O → IdSet) (columns : L
     most : (b : Bool) → 0 + n_fresh b ≤ 1
     most true = omega arith
     most false = omega arith
-
-    is_fresh : (b : Bool) → 0 < 0 + n_fresh b → b ≡ true
-    is_fresh true lt = refl
-    is_fresh false lt = absurd (omega (arith, lt))
 
 -- where a start is empty there is no solution
 module _ {O : Type 0} (tuples : O → IdSet) where

@@ -1,5 +1,5 @@
 -- A key fixed at the positions of a label: what the slice has of the images of assignments.
-use Rattle.std.specs.Prelude.{◌≡◌, ℕ, zero, suc, ◌+◌, ◌*◌, ◌/◌, ◌%◌, ◌^◌, ◌<◌, ◌≤◌, ◌&&◌, ◌||◌, Bool, true, false, not, cond, nat_eq, List, [], ◌∷◌, length, refl, Option, None, Some}
+use Rattle.std.specs.Prelude.{◌≡◌, ℕ, zero, suc, ◌+◌, ◌*◌, ◌/◌, ◌%◌, ◌^◌, ◌<◌, ◌≤◌, ◌&&◌, Bool, true, false, not, cond, nat_eq, List, [], ◌∷◌, length, refl, Option, None, Some}
 use Rattle.std.proofs.Common.{sym, ◌∙◌, ap, arith}
 use Rattle.std.proofs.Math.Nat.{pow-succ'}
 use Rattle.std.proofs.lemmas.Bool.Decides.{nat_tests}
@@ -7,7 +7,7 @@ use Rattle.std.proofs.lemmas.Cmp.{nat_cmp_total}
 use Rattle.std.specs.Cmp.Lexicographic.{slice_cmp}
 use Rattle.std.specs.FinMap.{nat_cmp-IsAntisymmetric}
 use Rattle.std.specs.FinSet as set
-use Rattle.std.specs.List.{cons_option, list_any}
+use Rattle.std.specs.List.{cons_option}
 use Rattle.std.specs.Ordering.{nat_cmp, eq_by_cmp}
 use Rattle.hypertrie_model.specs.IdSets.{IdSet}
 use Rattle.hypertrie_model.specs.Sets.{has, HasDepth}
@@ -26,16 +26,6 @@ number_itself : (m : ℕ) → nat_eq m m ≡ true
 number_itself m = grind (arith, nat_tests)
 
 -- ---- the mask of a label
-
-pub mask-some : (l : ℕ) (ls : List ℕ) → list_any (nat_eq l) ls ≡ true → 1 ≤ mask_of l ls
-mask-some l [] e = absurd (let f : ⊥ = cc in f)
-mask-some l (m ∷ ls) e = elim (nat_eq m l) as (λ b. nat_eq m l ≡ b → 1 ≤ cond b (2 * mask_of l ls + 1) (2 * mask_of l ls)) [
-  | true ↦ λ _. omega arith
-  | false ↦ λ other.
-      let apart : nat_eq l m ≡ false = grind (arith, nat_tests) in
-      let rest = mask-some l ls (sym (ap (λ b. b || list_any (nat_eq l) ls) apart) ∙ e) in
-      omega arith
-] refl
 
 pub mask-small : (l : ℕ) (ls : List ℕ) → mask_of l ls < 2 ^ length ls
 mask-small l [] = omega arith

@@ -17,7 +17,6 @@ use Rattle.hypertrie_model.specs.SetLaws.{and_both}
 use Rattle.hypertrie_model.specs.Slices.{at, is_at}
 use Rattle.trie_depth.specs.declared.id.Id.{Id}
 use Rattle.bag_model.specs.ListLaws.{IsExact, flips}
-use Rattle.bag_model.specs.Solutions.{HaveLabels}
 use Rattle.bag_list.specs.declared.level.Level.{Level}
 use Rattle.bag_list.specs.declared.track.Part.{Part}
 use Rattle.bag_list.specs.declared.track.Track.{Track}
@@ -223,7 +222,6 @@ module _ {O : Type 0} (depth_of : O → ℕ) (tuples : O → IdSet) (telling : �
         told_within = omega (arith, long, w);
         patterns = λ k t low. subst (λ n. IsTrack depth_of tuples n (depth + 1 + 0) (opened_levels levels depth i f) (slice_index_or tracks k t)) (sym long)
             (track-levels depth_of tuples (length levels) (depth + 1) (depth + 1 + 0) levels (opened_levels levels depth i f) (slice_index_or tracks k t) (omega arith) (λ j lt_j. opened-take levels depth i f le lt j (omega (arith, lt_j))) (kept.patterns k t low));
-        labelled = λ _. subst (λ n. HaveLabels nat_cmp n (rests tuples tracks)) (sym long) (kept.labelled (omega arith));
         n_values = kept.n_values ∙ sym long;
         keys = λ j g k. to_next depth (λ j. slice_index_or values (slice_index_or (opened_levels levels depth i f) j g).label k ≡ (slice_index_or (opened_levels levels depth i f) j g).key)
             (λ j low. subst (λ h. slice_index_or values h.label k ≡ h.key) (sym (opened-before levels depth i f le lt j g low)) (kept.keys j g k low))
@@ -245,7 +243,6 @@ module _ {O : Type 0} (depth_of : O → ℕ) (tuples : O → IdSet) (telling : �
     first = kept.first;
     told_within = kept.told_within;
     patterns = λ i t lt. track-levels depth_of tuples (length levels) (m + n_fresh fresh) (k + 0) levels levels (slice_index_or tracks i t) le (λ j _. refl) (kept.patterns i t lt);
-    labelled = λ some. kept.labelled (omega (arith, some, le));
     n_values = kept.n_values;
     keys = λ j f d lt. kept.keys j f d (omega (arith, lt, le_m));
     tried = λ j f lt. kept.tried j f (omega (arith, lt, le));
@@ -260,7 +257,6 @@ module _ {O : Type 0} (depth_of : O → ℕ) (tuples : O → IdSet) (telling : �
     first = kept.first;
     told_within = kept.told_within;
     patterns = λ i t lt. let lt_old : i < length tracks = omega (arith, lt, n_now) in track-same depth_of tuples (length levels) (last + 1 + n_fresh false) last levels (slice_index_or tracks i t) (slice_index_or now i t) (omega arith) (same i t lt_old) (kept.patterns i t lt_old);
-    labelled = λ some. subst (HaveLabels nat_cmp (length levels)) (sym (rests-same tuples tracks now n_now (λ i t lt. (same i t lt).start))) (kept.labelled some);
     n_values = kept.n_values;
     keys = kept.keys;
     tried = kept.tried;
@@ -284,7 +280,6 @@ module _ {O : Type 0} (depth_of : O → ℕ) (tuples : O → IdSet) (telling : �
             (let lt_old : i < length tracks = omega (arith, lt, n_now) in
             track-entered depth_of tuples (length levels) last levels (slice_set levels last g) g (slice_index_or tracks i t) (slice_index_or now i t) fresh (λ j le. take-set-le j levels last g le) (take_more_set levels last g within) (same i t lt_old) (λ e before p. fixed e before i t p lt_old)
             (track-levels depth_of tuples (length levels) (last + 1 + 0) (last + 1) levels levels (slice_index_or tracks i t) (omega arith) (λ j _. refl) (kept.patterns i t lt_old)));
-        labelled = λ _. subst (λ n. HaveLabels nat_cmp n (rests tuples now)) (sym long) (subst (HaveLabels nat_cmp (length levels)) (sym starts) (kept.labelled (omega arith)));
         n_values = length-set values g.label g.key ∙ kept.n_values ∙ sym long;
         keys = λ j f k. to_next last (λ j. slice_index_or (slice_set values g.label g.key) (slice_index_or (slice_set levels last g) j f).label k ≡ (slice_index_or (slice_set levels last g) j f).key)
             (λ j low. subst (λ h. slice_index_or (slice_set values g.label g.key) h.label k ≡ h.key) (sym (get_or-set_other levels last j g f (λ e. omega (arith, e, low))))

@@ -5,7 +5,7 @@ use Rattle.std.specs.List.Sorted.{IsPermutation}
 use Rattle.std.specs.Ordering.{nat_cmp}
 use Rattle.hypertrie_model.specs.IdSets.{IdSet}
 use Rattle.trie_depth.specs.declared.id.Id.{Id}
-use Rattle.bag_model.specs.Solutions.{Rest, solutions, HaveLabels}
+use Rattle.bag_model.specs.Solutions.{Rest, solutions}
 use Rattle.bag_list.specs.declared.level.Level.{Level}
 use Rattle.bag_list.specs.declared.search.Search.{Search}
 use Rattle.bag_list.specs.Levels.{from_of, to_come, level_labels, n_fresh, tells}
@@ -57,7 +57,6 @@ module _ {O : Type 0} (depth_of : O → ℕ) (tuples : O → IdSet) where
     pub first : (j : ℕ) (f : Level) → j < length levels → telling (slice_index_or levels j f).label ≡ nat_lt j told
     pub told_within : told ≤ length levels
     pub patterns : AreTracks depth_of tuples (length levels) (depth + n_fresh fresh) levels tracks
-    pub labelled : 0 < depth + n_fresh fresh → HaveLabels nat_cmp (length levels) (rests tuples tracks)
     pub n_values : length values ≡ length levels
     pub keys : (j : ℕ) (f : Level) (k : Id) → j < depth → slice_index_or values (slice_index_or levels j f).label k ≡ (slice_index_or levels j f).key
     pub tried : (j : ℕ) (f : Level) → j + 1 < depth + n_fresh fresh → IsTried (slice_index_or levels j f)

@@ -2,8 +2,6 @@
 ghost use Rattle.std.specs.Prelude.{◌≡◌, ◌+◌, ◌<◌, ◌≤◌, ℕ, true, false, List, [], ◌∷◌, ◌++◌, IsTrue, IfOk, IfSome, length, slice_index_or};
 ghost use Rattle.std.specs.List.{AllByRecursion};
 ghost use Rattle.std.specs.List.Sorted.{IsPermutation};
-ghost use Rattle.std.specs.Ordering.{nat_cmp};
-ghost use Rattle.bag_model.specs.Solutions.{HaveLabels};
 ghost use Rattle.bag_list.specs.Rows.{Row, row_here, rows_to_come};
 ghost use Rattle.bag_list.specs.Search.{IsKept, IsSameQuery, coming_of, id_solutions, steps_left};
 ghost use Rattle.bag_list.specs.Tracks.{IsPart, IsStart, part_at, rests_of};
@@ -51,7 +49,6 @@ impl<O: Operand> Search<O> {
     ) -> Result<Search<O>, Memory>
         requires few { n ≤ 96 }
         requires starts { (i : ℕ) (s : _) → i < length starts.now → IsStart O.depth_of O.tuples n (slice_index_or starts.now i s) }
-        requires labels { HaveLabels nat_cmp n (rests_of O.tuples starts.now) }
         requires columns { AllByRecursion (λ v. IfSome v (λ l. l < n)) columns.items }
         ensures kept { IfOk result (λ s. IsKept O.depth_of O.tuples s) }
         ensures coming { IfOk result (λ s. coming_of O.tuples s ≡ id_solutions n (rests_of O.tuples starts.now)) }

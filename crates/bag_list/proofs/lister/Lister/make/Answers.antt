@@ -11,9 +11,6 @@ use Rattle.bag_list.proofs.lister.Lister.make.Goals as goal
 pub of-requires-clause-starts : goal.of-requires-clause-starts
 of-requires-clause-starts g c = starts-are g.O.Operand.depth_of g.O.Operand.tuples c.args.query.now.labels c.args.starts.now c.args.query.now.patterns c.requires.starts c.requires.labels.places
 
-pub of-requires-clause-labels : goal.of-requires-clause-labels
-of-requires-clause-labels g c = starts-labelled g.O.Operand.depth_of g.O.Operand.tuples c.args.query.now.labels c.args.starts.now c.args.query.now.patterns c.requires.starts c.requires.labels.each
-
 pub of-requires-clause-columns : goal.of-requires-clause-columns
 of-requires-clause-columns g c = subst (AllByRecursion (λ v. IfSome v (λ l. l < c.args.query.now.labels))) (sym c.in_ok-columns.ensures) c.requires.labels.columns
 

@@ -1,8 +1,6 @@
 use Rattle.std.proofs.Common.{◌≡◌, ◌++◌, List, true, false, length, sym, ◌∙◌, ap, subst, arith}
 use Rattle.std.specs.List.{AllByRecursion, filter, range_with_len}
-use Rattle.std.specs.Ordering.{nat_cmp}
 use Rattle.std.specs.Prelude.{IfSome, ◌<◌}
-use Rattle.bag_model.specs.Solutions.{HaveLabels}
 use Rattle.bag_list.specs.declared.level.Level.{Level}
 use Rattle.bag_list.specs.Levels.{is_telling, level_labels}
 use Rattle.bag_list.specs.Tracks.{AreTracks}
@@ -22,8 +20,7 @@ returns-clause-kept g c =
     record {
       kept = kept-begun g.O.Operand.depth_of g.O.Operand.tuples columns c.args.distinct c.args.n levels c.in_ok-levels.told labels told c.in_ok-tracks.fresh tracks c.in_ok-values.values.items
           (sym c.in_ok-values.values.ok.0 ∙ c.in_ok-values.ensures.len ∙ c.from-n.ensures)
-          (subst (λ n. (fs : List Level) → AreTracks g.O.Operand.depth_of g.O.Operand.tuples n 1 fs tracks) c.from-n.ensures c.in_ok-tracks.ensures.tracks)
-          (λ e. subst (HaveLabels nat_cmp c.args.n) (sym (c.in_ok-tracks.ensures.whole e)) c.requires.labels);
+          (subst (λ n. (fs : List Level) → AreTracks g.O.Operand.depth_of g.O.Operand.tuples n 1 fs tracks) c.from-n.ensures c.in_ok-tracks.ensures.tracks);
       few = let few = c.requires.few in omega (arith, few, long);
       columns = subst (λ m. AllByRecursion (λ v. IfSome v (λ l. l < m)) columns) (sym long) c.requires.columns;
       n_ops = c.in_ok-ops.ensures ∙ ap length c.deref-2.ensures.value;

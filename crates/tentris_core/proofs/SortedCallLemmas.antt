@@ -1,5 +1,5 @@
 -- With sorted rows, a call is a function of what went in.
-use Rattle.std.proofs.Common.{◌≡◌, ◌≢◌, ◌∙◌, ℕ, ◌+◌, ◌≤◌, ◌<◌, Bool, true, false, List, [], ◌∷◌, ◌++◌, length, refl, sym, ap, subst, arith, append-nil}
+use Rattle.std.proofs.Common.{◌≡◌, ◌∙◌, ℕ, ◌+◌, ◌≤◌, ◌<◌, true, false, List, [], ◌∷◌, ◌++◌, length, refl, sym, ap, subst, arith, append-nil}
 use Rattle.std.specs.Prelude.{Option, Some, None, take}
 use Rattle.std.specs.Io.KnownBytes.{append_known, prepend_known, IsAtEnd}
 use Rattle.std.proofs.lemmas.List.{append_cancel_left, take-append-le, length-append}
@@ -7,18 +7,15 @@ use Rattle.text_lines.specs.Lines.{lines_of, whole_lines_of}
 use Rattle.script_model.specs.Commands.{Command, commands_of, closed_commands_of}
 use Rattle.file_model.specs.FileMap.{FileMap}
 use Rattle.rdf_model.specs.Graph.{Graph}
-use Rattle.command_words.specs.declared.Settings.{Settings}
-use Rattle.run_model.specs.Worlds.{Config, World, FailedRead}
+use Rattle.run_model.specs.Worlds.{Config, FailedRead}
 use Rattle.run_model.specs.Steps.{Event, Run, commands_in, text_of, or_none, failed_reads}
 use Rattle.tn_io.specs.FileFaults.{FaultCounts}
 use Rattle.graph_store.specs.State.{State, graph}
 use Rattle.line_batch.specs.Carrying.{Around, config_in, world_in}
 use Rattle.tentris_core.specs.Carrying.{StoreEvent, events_in, RunsOver}
 use Rattle.tentris_core.specs.Traffic.{Traffic, AreCounted}
-use Rattle.tentris_core.specs.Runs.{RunsAll, RunsFront, IsWatched}
-use Rattle.tentris_core.specs.Called.{around_by, bounded_by, EndsScript}
+use Rattle.tentris_core.specs.Runs.{IsWatched}
 use Rattle.tentris_core.specs.Sorted.{AreUnhindered, HadMemory, AreUnrisen, CarriesOut, whole, front, SortedCall, SortedCallsAgree, CallsCarryOut}
-use Rattle.tentris_core.specs.declared.running.Status.{Status}
 use Rattle.tentris_core.specs.declared.running.Status.TheVariants.{Done, SomeRefused, BadWords, ReadFault, WriteFault, Memory, TooLong}
 use Rattle.tentris_core.proofs.CompleteLemmas.{raised}
 use Rattle.tentris_core.proofs.SortedLemmas.{sorted_runs_agree}
@@ -111,7 +108,7 @@ as_run cfg files script G H out h =
 
       run : Run (config_in h.around h.s) (record { graph = G; files = Some files }) (events_in h.around h.trace) (record { graph = H; files = Some files })
       run = subst (λ V. Run (config_in h.around h.s) (record { graph = G; files = Some files }) (events_in h.around h.trace) V) (world h.t H h.ends)
-        (subst (λ W. Run (config_in h.around h.s) W (events_in h.around h.trace) (world_in h.around h.t)) (world h.s G h.begins) (over_of h.around h.s h.t h.before h.now h.trace h.runs).run)
+          (subst (λ W. Run (config_in h.around h.s) W (events_in h.around h.trace) (world_in h.around h.t)) (world h.s G h.begins) (over_of h.around h.s h.t h.before h.now h.trace h.runs).run)
 
       told : Some (h.had ++ out) ≡ Some (h.had ++ text_of (events_in h.around h.trace))
       told = sym h.writes ∙ wrote_of h.around h.s h.t h.before h.now h.trace h.runs ∙ ap (λ w. append_known w (text_of (events_in h.around h.trace))) h.written
@@ -125,8 +122,8 @@ sorted_calls_agree cfg files script G H K out other h k =
     let two : AsRun cfg files script G K other = as_run cfg files script G K other k in
     let same : commands_in one.events ≡ commands_in two.events = same_commands cfg.most_bytes script (commands_in one.events) (commands_in two.events) one.commands two.commands in
     let agree : (text_of one.events ≡ text_of two.events) × (record { graph = H; files = Some files } ≡ record { graph = K; files = Some files }) =
-      sorted_runs_agree cfg files (record { graph = G; files = Some files }) (record { graph = H; files = Some files }) (record { graph = K; files = Some files })
-        one.events two.events h.sorted refl one.run two.run same one.unhindered two.unhindered in
+    sorted_runs_agree cfg files (record { graph = G; files = Some files }) (record { graph = H; files = Some files }) (record { graph = K; files = Some files })
+    one.events two.events h.sorted refl one.run two.run same one.unhindered two.unhindered in
     (one.text ∙ agree.0 ∙ sym two.text, ap (λ w. w.graph) agree.1)
 
 pub calls_carry_out : CallsCarryOut

@@ -1,5 +1,5 @@
 -- With sorted rows, a run is a function of what went in.
-use Rattle.std.proofs.Common.{◌≡◌, ◌≢◌, ◌∙◌, ◌⊎◌, inl, inr, ℕ, ◌+◌, Bool, true, false, List, [], ◌∷◌, ◌++◌, refl, sym, ap, subst}
+use Rattle.std.proofs.Common.{◌≡◌, ◌≢◌, ◌∙◌, ℕ, true, List, [], ◌∷◌, ◌++◌, refl, sym, ap, subst}
 use Rattle.std.specs.Prelude.{Option, Some, None}
 use Rattle.std.specs.Option.{IsSomeAnd}
 use Rattle.std.specs.FinMap as map
@@ -7,13 +7,11 @@ use Rattle.std.specs.FinSet as set
 use Rattle.file_model.specs.FileMap.{FileMap}
 use Rattle.rdf_model.specs.Terms.{Text}
 use Rattle.rdf_model.specs.Graph.{Graph, added, gone}
-use Rattle.rdf_model.specs.Dumps.{dump_lines}
-use Rattle.graph_shape.specs.GraphShapes.{figures_of, shape_lines}
 use Rattle.script_model.specs.Commands.{Change, Inserts, Deletes, Triples, Question, OneLine, Command, Block, Single, Bad, Unended, File, Generate, Dump, Stats, Shape, question_of}
 use Rattle.query_grammar.specs.Meaning as query
 use Rattle.query_grammar.specs.Meaning.{Query, query_of}
 use Rattle.solution_model.specs.Answers.{sorted_answer}
-use Rattle.run_model.specs.Answers.{Refusal, Answer, Done, New, Gone, Listed, Refused, NoMemory, NoFile, answer_text}
+use Rattle.run_model.specs.Answers.{Refusal, Answer, Done, New, Gone, Listed, Refused, NoMemory, answer_text}
 use Rattle.run_model.specs.Loads.{generated_sayings, HasBytes, LoadsFile, RefusesFile, file_refusal}
 use Rattle.run_model.specs.Sayings.{Saying, Changes, sayings, triples_of}
 use Rattle.run_model.specs.Questions.{AnswersQuestion}
@@ -21,7 +19,7 @@ use Rattle.run_model.specs.Worlds.{Config, World, FailedRead}
 use Rattle.run_model.specs.Steps as steps
 use Rattle.run_model.specs.Steps.{Step, Event, Run, Does, LineDoes, refusal_of, commands_in, text_of}
 use Rattle.text_lines.specs.Lines.{lines_of}
-use Rattle.tentris_core.specs.Sorted.{IsUnhindered, AreUnhindered, SortedRunsAgree}
+use Rattle.tentris_core.specs.Sorted.{IsUnhindered, SortedRunsAgree}
 
 -- a graph and an answer, twice
 abbrev Alike : Graph → Answer → Graph → Answer → Type 0

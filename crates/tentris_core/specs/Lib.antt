@@ -10,3 +10,4 @@ pub mod Complete
 pub mod Sorted
 pub mod Codes
 pub mod Endings
+pub mod Dry

@@ -1,8 +1,8 @@
 //! Reads of the file system, of a reader and writes to a writer, each with its faults.
 use crate::disk::Disk;
 use crate::standard::{Input, Output};
-use std::io::{self, Read, Write};
 use std::fs;
+use std::io::{self, Read, Write};
 use std::test::Fail;
 use tn_io::{Failed, Files, Sink, Source};
 
@@ -97,7 +97,11 @@ fn writes_to_a_writer(rt: HostRuntime) {
         writes: 0,
     };
     let mut output = Output::new(&mut writer);
-    let written = [output.write(b"ok dump 0\n"), output.write(b"ump 0\n"), output.write(b"ump 0\n")];
+    let written = [
+        output.write(b"ok dump 0\n"),
+        output.write(b"ump 0\n"),
+        output.write(b"ump 0\n"),
+    ];
     assert_eq!(rt; written, [Ok(4), Err(Failed), Ok(4)]);
     assert_eq!(rt; writer.got.as_slice(), b"ok dump ".as_slice());
 }

@@ -39,10 +39,10 @@ returns-else-self-len-clause-some g c e =
     let i = c.loop-self.invariant in
     let s = c.loop-self.self in
     let old = coming_of g.O.Operand.tuples c.args.self.now in
-    let new = to_come (id_solutions (length s.levels.items) (rests g.O.Operand.tuples s.tracks.items)) (take s.told s.levels.items) false in
+    let new = to_come (id_solutions (length s.levels.items) (rests g.O.Operand.tuples s.operands.tracks.items)) (take s.told s.levels.items) false in
     let row = row_of s.columns.items (numbers s.values.items) in
     subst (λ rows. IsPermutation rows (row ∷ chosen_rows nat_cmp s.distinct (map (row_of s.columns.items) new)))
     (λ j. chosen_rows nat_cmp (i.same.distinct j) (map (row_of (i.same.columns j)) old))
     (found-row s.columns.items s.distinct old new (numbers s.values.items)
-    (found-here g.O.Operand.depth_of g.O.Operand.tuples g.met.O.Operand.deep (tells s.columns.items s.distinct) (tells s.columns.items s.distinct) s.levels.items s.depth s.fresh s.told s.tracks.items s.values.items old i.kept.kept
+    (found-here g.O.Operand.depth_of g.O.Operand.tuples g.met.O.Operand.deep (tells s.columns.items s.distinct) (tells s.columns.items s.distinct) s.levels.items s.depth s.fresh s.told s.operands.tracks.items s.values.items old i.kept.kept
     refl c.if-not-self.false (let le = c.if-self-len.false in let n = c.len.ensures in omega (arith, le, n)) i.coming))

@@ -32,16 +32,15 @@ returns-clause-kept g c =
     let n : length (slice_set c.swap.new.self.items s.depth f) ≡ length s.levels.items = ap length items ∙ long in
     let small = chosen-small s.levels.items c.swap.new.self.items s.depth i c.index.result.now k.labels c.swap.ensures.items c.requires.deeper within c.index.ensures in
     record {
-      kept = subst (λ L. AreKept g.O.Operand.depth_of g.O.Operand.tuples (tells s.columns.items s.distinct) L (s.depth + 1) false s.told s.tracks.items s.values.items) (sym items)
-          (kept-opened g.O.Operand.depth_of g.O.Operand.tuples (tells s.columns.items s.distinct) s.levels.items s.told s.tracks.items s.values.items s.depth i f
-          (subst (λ b. AreKept g.O.Operand.depth_of g.O.Operand.tuples (tells s.columns.items s.distinct) s.levels.items s.depth b s.told s.tracks.items s.values.items) c.requires.fresh k)
+      kept = subst (λ L. AreKept g.O.Operand.depth_of g.O.Operand.tuples (tells s.columns.items s.distinct) L (s.depth + 1) false s.told s.operands.tracks.items s.values.items) (sym items)
+          (kept-opened g.O.Operand.depth_of g.O.Operand.tuples (tells s.columns.items s.distinct) s.levels.items s.told s.operands.tracks.items s.values.items s.depth i f
+          (subst (λ b. AreKept g.O.Operand.depth_of g.O.Operand.tuples (tells s.columns.items s.distinct) s.levels.items s.depth b s.told s.operands.tracks.items s.values.items) c.requires.fresh k)
           c.choice-chosen.ensures.from within c.choice-chosen.ensures.telling
           (chosen-label s.levels.items c.swap.new.self.items s.depth i c.index.result.now c.swap.ensures.items c.requires.deeper c.index.ensures)
           (λ d. get_or_default s.values.items c.index.result.now.label d c.index-2.result.now (let m = k.n_values in omega (arith, small, m)) ∙ ap (λ l. slice_index_or s.values.items l c.index-2.result.now) (sym c.from.ensures) ∙ sym c.index-2.ensures));
       few = let few = c.requires.kept.few in omega (arith, n, few);
       columns = subst (λ m. AllByRecursion (λ v. IfSome v (λ l. l < m)) s.columns.items) (sym n) c.requires.kept.columns;
-      n_ops = c.requires.kept.n_ops;
-      n_masks = c.requires.kept.n_masks;
+      room = c.requires.kept.room;
       n_counts =
           let m : length c.choice-chosen.new.counts ≡ length s.counts.items = c.choice-chosen.auto.counts ∙ ap length c.deref_mut.ensures.value in
           ap length (with_items_is s.counts c.choice-chosen.new.counts (m ∙ sym s.counts.ok.0)) ∙ m ∙ c.requires.kept.n_counts ∙ sym n;
@@ -54,7 +53,7 @@ returns-clause-coming g c =
     let f : Level = record { label = c.index.result.now.label; key = c.index-2.result.now; from = Some (record { 0 = 0 }) } in
     let items : slice_set c.swap.new.self.items s.depth f ≡ opened_levels s.levels.items s.depth i f = ap (λ xs. slice_set xs s.depth f) c.swap.ensures.items in
     let within = subst (λ xs. i < length xs) c.deref-2.ensures.value c.choice-chosen.ensures.within in
-    let R = rests g.O.Operand.tuples s.tracks.items in
+    let R = rests g.O.Operand.tuples s.operands.tracks.items in
     ap (λ L. to_come (id_solutions (length L) R) (take (s.depth + 1) L) false) items
     ∙ (λ j. to_come (id_solutions (length-opened s.levels.items s.depth i f c.choice-chosen.ensures.from within j) R) (opened-more s.levels.items s.depth i f c.choice-chosen.ensures.from within j) false)
     ∙ opened (id_solutions (length s.levels.items) R) (take s.depth s.levels.items) f refl

@@ -1,0 +1,9 @@
+use Rattle.bag_list.specs.Operands.{AreReady}
+use Rattle.bag_list.proofs.ThroughLemmas.{IsRaised}
+use Rattle.bag_list.proofs.operands.Operands.next_left.Given as goal
+
+abbrev pub invariant-loop-i : goal.invariant-loop-i
+invariant-loop-i g l = record {
+  raised : IsRaised g.O.Operand.tuples l.levels l.fn.self.tracks.items l.self.tracks.items l.depth l.tested.first l.next.0;
+  ready : AreReady g.O.Operand.depth_of g.O.Operand.tuples l.depth l.self;
+}

@@ -1,0 +1,76 @@
+//! The patterns of a search.
+ghost use Rattle.std.specs.Prelude.{◌≡◌, ◌<◌, ◌≤◌, ℕ, List, true, false, IsTrue, IfOk, length, slice_index_or};
+ghost use Rattle.bag_list.specs.Operands.{AreReady, AreRoom, HasSameJoins, IsKeptTo};
+ghost use Rattle.bag_list.specs.Tracks.{AllAdmitAt, AreFixed, AreTracks, HasEmpty, IsStart, rests, rests_of};
+
+use crate::join::Join;
+use crate::level::Level;
+use crate::track::{Start, Track, enter_all, tracks_of};
+use std::alloc::Global;
+use std::sync::ledger::Ledger;
+use trie_depth::{Memory, Operand, Steps};
+
+/// The patterns, and what is gathered of them: for the label that is fixed next, for one that it is looked for through, and
+/// for it behind that one.
+#[derive(Drop)]
+pub struct Operands<O: Operand> {
+    pub tracks: Vec<Track<O>>,
+    pub own: Join<O>,
+    pub other: Join<O>,
+    pub behind: Join<O>,
+}
+
+impl<O: Operand> Operands<O> {
+    /// The patterns of a search through so many labels, and whether these are all: none where one is empty.
+    pub fn of(alloc: Global, starts: &[Start<O>], n: usize) -> Result<(Operands<O>, bool), Memory>
+        requires few { n ≤ 96 }
+        requires starts { (i : ℕ) (s : _) → i < length starts.now → IsStart O.depth_of O.tuples n (slice_index_or starts.now i s) }
+        ensures room { IfOk result (λ r. AreRoom r.0) }
+        ensures tracks { IfOk result (λ r. (fs : _) → AreTracks O.depth_of O.tuples n 1 fs r.0.tracks.items) }
+        ensures whole { IfOk result (λ r. IsTrue r.1 → rests O.tuples r.0.tracks.items ≡ rests_of O.tuples starts.now) }
+        ensures empty { IfOk result (λ r. r.1 ≡ false → HasEmpty starts.now) }
+    {
+        let (tracks, fresh) = tracks_of(alloc, starts, n)?;
+        let own = Join::of(alloc, &tracks)?;
+        let other = Join::of(alloc, &tracks)?;
+        let behind = Join::of(alloc, &tracks)?;
+        let operands = Operands {
+            tracks,
+            own,
+            other,
+            behind,
+        };
+        Ok((operands, fresh))
+    }
+
+    /// Fixes the label of a level at its key in every pattern. False where nothing is left of one.
+    pub fn enter<W: Ledger>(&mut self, depth: usize, level: Level, reads: &mut Steps<W>) -> bool
+        requires { AreReady O.depth_of O.tuples depth self.old }
+        ensures kept { IsKeptTo O.depth_of O.tuples depth self.old self.new }
+        ensures joins { HasSameJoins self.old self.new }
+        ensures some { IsTrue result → AreFixed O.depth_of O.tuples depth level.label level.key.0 self.old.tracks.items self.new.tracks.items }
+        ensures none { result ≡ false → AllAdmitAt O.tuples self.old.tracks.items depth level.label level.key.0 → ⊥ }
+    {
+        enter_all(&mut self.tracks, depth, level.label, level.key, reads)
+    }
+
+    /// The same for a key that every pattern admits. What the last label of all leaves is asked for nowhere, so nothing is
+    /// fixed.
+    pub fn enter_next<W: Ledger>(
+        &mut self,
+        depth: usize,
+        is_last: bool,
+        level: Level,
+        reads: &mut Steps<W>,
+    ) -> bool
+        requires { AreReady O.depth_of O.tuples depth self.old }
+        ensures kept { IsKeptTo O.depth_of O.tuples depth self.old self.new }
+        ensures some { IsTrue result → is_last ≡ false → AreFixed O.depth_of O.tuples depth level.label level.key.0 self.old.tracks.items self.new.tracks.items }
+        ensures none { result ≡ false → AllAdmitAt O.tuples self.old.tracks.items depth level.label level.key.0 → ⊥ }
+    {
+        if is_last {
+            return true;
+        }
+        self.enter(depth, level, reads)
+    }
+}

@@ -113,11 +113,17 @@ sames-twice depth x y z first second = record {
   each = λ i t lt. same-twice depth _ _ _ (first.each i t lt) (second.each i t (let n = first.number in omega (arith, lt, n)));
 }
 
+pub same-before : {O : Type 0} (depth d : ℕ) (x y : List (Track O)) → d ≤ depth → AreSameTo depth x y → AreSameTo d x y
+same-before depth d x y le same = record {
+  number = same.number;
+  each = λ i t lt. let s = same.each i t lt in record { start = s.start; room = s.room; parts = λ j p low. s.parts j p (omega (arith, low, le)) };
+}
+
 pub same-itself : {O : Type 0} (depth : ℕ) (tracks : List (Track O)) → AreSameTo depth tracks tracks
 same-itself depth tracks = record { number = refl; each = λ i t lt. record { start = refl; room = refl; parts = λ _ _ _. refl } }
 
-pub kept-twice : {O : Type 0} (depth_of : O → ℕ) (tuples : O → IdSet) (depth : ℕ) (x y z : Operands O) → AreSameTo depth x.tracks.items y.tracks.items → IsKeptTo depth_of tuples depth y z → IsKeptTo depth_of tuples depth x z
-kept-twice depth_of tuples depth x y z same kept = record { same = sames-twice depth _ _ _ same kept.same; ready = kept.ready }
+pub kept-twice : {O : Type 0} (depth_of : O → ℕ) (tuples : O → IdSet) (depth : ℕ) (x y z : Operands O) → AreSameTo depth x.tracks.items y.tracks.items → y.joins ≡ x.joins → IsKeptTo depth_of tuples depth y z → IsKeptTo depth_of tuples depth x z
+kept-twice depth_of tuples depth x y z same joins kept = record { same = sames-twice depth _ _ _ same kept.same; joins = kept.joins ∙ joins; ready = kept.ready }
 
 -- ---- the keys of another label
 

@@ -1,30 +1,34 @@
--- The patterns of a search, and room for what is gathered of them.
-use Rattle.std.specs.Prelude.{ℕ, ◌+◌, ◌<◌, ◌≡◌, length}
+-- The patterns of a search, and what is gathered of them.
+use Rattle.std.specs.Prelude.{ℕ, ◌+◌, ◌<◌, ◌≡◌, List, length, slice_index_or}
 use Rattle.hypertrie_model.specs.IdSets.{IdSet}
+use Rattle.bag_list.specs.declared.join.Join.{Join}
+use Rattle.bag_list.specs.declared.level.Level.{Level}
 use Rattle.bag_list.specs.declared.operands.Operands.{Operands}
-use Rattle.bag_list.specs.Joins.{HasRoom}
+use Rattle.bag_list.specs.Joins.{HasRoom, IsJoin}
 use Rattle.bag_list.specs.Tracks.{AreParts, AreRoomy, AreSameTo}
 
--- there is room for an operand of each pattern
-pub record AreRoom {O : Type 0} (s : Operands O) : Type 0 where
-  pub own : HasRoom (length s.tracks.items) s.own
+-- there is room for an operand of each pattern, at each of n levels and for the labels that a key is looked for through
+pub record AreRoom {O : Type 0} (n : ℕ) (s : Operands O) : Type 0 where
+  pub number : length s.joins.items ≡ n
+  pub joins : (i : ℕ) (j : Join O) → i < n → HasRoom (length s.tracks.items) (slice_index_or s.joins.items i j)
   pub other : HasRoom (length s.tracks.items) s.other
   pub behind : HasRoom (length s.tracks.items) s.behind
 
--- so many levels are fixed, and one more can be
-pub record AreReady {O : Type 0} (depth_of : O → ℕ) (tuples : O → IdSet) (depth : ℕ) (s : Operands O) : Type 0 where
-  pub low : depth < 96
-  pub room : AreRoom s
-  pub roomy : AreRoomy (depth + 1) s.tracks.items
-  pub parts : AreParts depth_of tuples depth s.tracks.items
+module _ {O : Type 0} (depth_of : O → ℕ) (tuples : O → IdSet) where
+  -- so many levels are fixed, and one more can be
+  pub record AreReady (depth : ℕ) (s : Operands O) : Type 0 where
+    pub low : depth < 96
+    pub within : depth < length s.joins.items
+    pub room : AreRoom (length s.joins.items) s
+    pub roomy : AreRoomy (depth + 1) s.tracks.items
+    pub parts : AreParts depth_of tuples depth s.tracks.items
 
--- what was gathered stays
-pub record HasSameJoins {O : Type 0} (s t : Operands O) : Type 0 where
-  pub own : t.own ≡ s.own
-  pub other : t.other ≡ s.other
-  pub behind : t.behind ≡ s.behind
+  -- what so many levels leave stays, and what was gathered for levels
+  pub record IsKeptTo (depth : ℕ) (s t : Operands O) : Type 0 where
+    pub same : AreSameTo depth s.tracks.items t.tracks.items
+    pub joins : t.joins ≡ s.joins
+    pub ready : AreReady depth t
 
--- what so many levels leave stays
-pub record IsKeptTo {O : Type 0} (depth_of : O → ℕ) (tuples : O → IdSet) (depth : ℕ) (s t : Operands O) : Type 0 where
-  pub same : AreSameTo depth s.tracks.items t.tracks.items
-  pub ready : AreReady depth_of tuples depth t
+  -- what has the label was gathered for each of the first levels
+  abbrev pub AreJoined : List Level → ℕ → Operands O → Type 0
+  AreJoined levels depth s = (i : ℕ) (f : Level) (j : Join O) → i < depth → IsJoin depth_of tuples s.tracks.items i (slice_index_or levels i f).label (slice_index_or s.joins.items i j)

@@ -10,7 +10,7 @@ use Rattle.bag_list.specs.declared.level.Level.{Level}
 use Rattle.bag_list.specs.declared.search.Search.{Search}
 use Rattle.bag_list.specs.Levels.{from_of, to_come, level_labels, n_fresh, tells}
 use Rattle.bag_list.specs.declared.track.Track.{Track}
-use Rattle.bag_list.specs.Operands.{AreRoom}
+use Rattle.bag_list.specs.Operands.{AreJoined, AreRoom}
 use Rattle.bag_list.specs.Tracks.{rests, AllAdmitAt, AreTracks}
 
 -- all numbers of ids below n, and the assignments of ids
@@ -68,7 +68,8 @@ module _ {O : Type 0} (depth_of : O → ℕ) (tuples : O → IdSet) where
     pub kept : AreKept (tells s.columns.items s.distinct) s.levels.items s.depth s.fresh s.told s.operands.tracks.items s.values.items
     pub few : length s.levels.items ≤ 96
     pub columns : AllByRecursion (λ v. IfSome v (λ l. l < length s.levels.items)) s.columns.items
-    pub room : AreRoom s.operands
+    pub room : AreRoom (length s.levels.items) s.operands
+    pub joins : AreJoined depth_of tuples s.levels.items s.depth s.operands
     pub n_counts : length s.counts.items ≡ length s.levels.items
 
 -- both are of one query

@@ -1,5 +1,5 @@
 //! The operands that have a label.
-ghost use Rattle.std.specs.Prelude.{◌≡◌, ◌<◌, ◌≤◌, ℕ, IfOk, length, take};
+ghost use Rattle.std.specs.Prelude.{◌≡◌, ◌<◌, ◌≤◌, ℕ, IfOk, length, slice_index_or, take};
 ghost use Rattle.key_join.specs.Common.{AllFit, AllAdmit};
 ghost use Rattle.key_join.specs.Least.{IsLeastFrom};
 ghost use Rattle.bag_list.specs.Joins.{AllJoined, HasRoom, IsJoin, IsJoinable};
@@ -59,6 +59,22 @@ impl<O: Operand> Join<O> {
             reads,
         )
     }
+}
+
+/// None yet for each of so many levels.
+pub fn joins_of<O: Operand>(
+    alloc: Global,
+    tracks: &[Track<O>],
+    n: usize,
+) -> Result<Vec<Join<O>>, Memory>
+    ensures number { IfOk result (λ joins. length joins.items ≡ n) }
+    ensures room { IfOk result (λ joins. (i : ℕ) (j : _) → i < n → HasRoom (length tracks.now) (slice_index_or joins.items i j)) }
+{
+    let mut joins = Vec::new(alloc);
+    for _level in 0..n {
+        joins.push(Join::of(alloc, tracks)?)?;
+    }
+    Ok(joins)
 }
 
 /// The operands and masks of the patterns that have a label, and how many these are.

@@ -1,22 +1,25 @@
 //! The patterns of a search.
-ghost use Rattle.std.specs.Prelude.{◌≡◌, ◌<◌, ◌≤◌, ℕ, List, true, false, IsTrue, IfOk, length, slice_index_or};
-ghost use Rattle.bag_list.specs.Operands.{AreReady, AreRoom, HasSameJoins, IsKeptTo};
+ghost use Rattle.std.specs.Prelude.{◌≡◌, ◌≢◌, ◌<◌, ◌≤◌, ℕ, List, true, false, IsTrue, IfOk, length, slice_index_or};
+ghost use Rattle.bag_list.specs.Joins.{HasRoom, IsJoin};
+ghost use Rattle.bag_list.specs.Operands.{AreReady, AreRoom, IsKeptTo};
 ghost use Rattle.bag_list.specs.Tracks.{AllAdmitAt, AreFixed, AreTracks, HasEmpty, IsStart, rests, rests_of};
 
-use crate::join::Join;
+use crate::join::{Join, joins_of};
 use crate::level::Level;
 use crate::track::{Start, Track, enter_all, tracks_of};
 use std::alloc::Global;
 use std::sync::ledger::Ledger;
 use trie_depth::{Memory, Operand, Steps};
 
-/// The patterns, and what is gathered of them: for the label that is fixed next, for one that it is looked for through, and
-/// for it behind that one.
+/// The patterns, and what is gathered of them.
 #[derive(Drop)]
 pub struct Operands<O: Operand> {
     pub tracks: Vec<Track<O>>,
-    pub own: Join<O>,
+    /// For each level, what has its label, once that is open.
+    pub joins: Vec<Join<O>>,
+    /// What has a label that the next key is looked for through.
     pub other: Join<O>,
+    /// What has the label itself behind that one.
     pub behind: Join<O>,
 }
 
@@ -25,29 +28,40 @@ impl<O: Operand> Operands<O> {
     pub fn of(alloc: Global, starts: &[Start<O>], n: usize) -> Result<(Operands<O>, bool), Memory>
         requires few { n ≤ 96 }
         requires starts { (i : ℕ) (s : _) → i < length starts.now → IsStart O.depth_of O.tuples n (slice_index_or starts.now i s) }
-        ensures room { IfOk result (λ r. AreRoom r.0) }
+        ensures room { IfOk result (λ r. AreRoom n r.0) }
         ensures tracks { IfOk result (λ r. (fs : _) → AreTracks O.depth_of O.tuples n 1 fs r.0.tracks.items) }
         ensures whole { IfOk result (λ r. IsTrue r.1 → rests O.tuples r.0.tracks.items ≡ rests_of O.tuples starts.now) }
         ensures empty { IfOk result (λ r. r.1 ≡ false → HasEmpty starts.now) }
     {
         let (tracks, fresh) = tracks_of(alloc, starts, n)?;
-        let own = Join::of(alloc, &tracks)?;
+        let joins = joins_of(alloc, &tracks, n)?;
         let other = Join::of(alloc, &tracks)?;
         let behind = Join::of(alloc, &tracks)?;
         let operands = Operands {
             tracks,
-            own,
+            joins,
             other,
             behind,
         };
         Ok((operands, fresh))
     }
 
+    /// Gathers what has the label of a level.
+    pub fn open(&mut self, depth: usize, label: u8)
+        requires { AreReady O.depth_of O.tuples depth self.old }
+        ensures tracks { self.new.tracks ≡ self.old.tracks }
+        ensures room { (n : ℕ) → AreRoom n self.old → AreRoom n self.new }
+        ensures join { (j : _) → IsJoin O.depth_of O.tuples self.old.tracks.items depth label (slice_index_or self.new.joins.items depth j) }
+        ensures others { (i : ℕ) (j : _) → i ≢ depth → slice_index_or self.new.joins.items i j ≡ slice_index_or self.old.joins.items i j }
+    {
+        self.joins[depth].gather(&self.tracks, depth, label);
+    }
+
     /// Fixes the label of a level at its key in every pattern. False where nothing is left of one.
     pub fn enter<W: Ledger>(&mut self, depth: usize, level: Level, reads: &mut Steps<W>) -> bool
         requires { AreReady O.depth_of O.tuples depth self.old }
         ensures kept { IsKeptTo O.depth_of O.tuples depth self.old self.new }
-        ensures joins { HasSameJoins self.old self.new }
+        ensures other { self.new.other ≡ self.old.other }
         ensures some { IsTrue result → AreFixed O.depth_of O.tuples depth level.label level.key.0 self.old.tracks.items self.new.tracks.items }
         ensures none { result ≡ false → AllAdmitAt O.tuples self.old.tracks.items depth level.label level.key.0 → ⊥ }
     {

@@ -122,6 +122,7 @@ impl<O: Operand> Search<O> {
             key: self.values[usize::from(label)],
             from: Some(Id(0)),
         };
+        self.operands.open(self.depth, label);
         self.tries = tries_opened(self.depth, self.told, self.tries);
         self.depth += 1;
         self.fresh = false;

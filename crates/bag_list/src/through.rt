@@ -1,6 +1,7 @@
 //! The next key of a label at which what is left may have a solution.
 ghost use Rattle.std.specs.Prelude.{◌≡◌, ◌+◌, ◌<◌, ◌≤◌, ℕ, None, IfSome, IsTrue, length, slice_index_or, Some, MatchOption};
 ghost use Rattle.hypertrie_model.specs.Slices.{at};
+ghost use Rattle.bag_list.specs.Joins.{IsJoin};
 ghost use Rattle.bag_list.specs.Levels.{AreBelow, from_of, lesser_of};
 ghost use Rattle.bag_list.specs.Operands.{AreReady, IsKeptTo};
 ghost use Rattle.bag_list.specs.Tracks.{AllAdmitAt, HasSolutionAt};
@@ -38,6 +39,7 @@ impl<O: Operand> Operands<O> {
     ) -> Option<Id>
         requires within { (depth < length levels.now) × (tested.first ≤ length levels.now) }
         requires ready { AreReady O.depth_of O.tuples depth self.old }
+        requires join { (f j : _) → IsJoin O.depth_of O.tuples self.old.tracks.items depth (slice_index_or levels.now depth f).label (slice_index_or self.old.joins.items depth j) }
         ensures kept { IsKeptTo O.depth_of O.tuples depth self.old self.new }
         ensures from { (f : _) → IfSome result (λ r. from_of (slice_index_or levels.now depth f).from ≤ r.0) }
         ensures admitted { tested.first ≡ length levels.now → (f : _) → IfSome result (λ r. AllAdmitAt O.tuples self.old.tracks.items depth (slice_index_or levels.now depth f).label r.0) }
@@ -46,8 +48,7 @@ impl<O: Operand> Operands<O> {
         let level = &levels[depth];
         let label = level.label;
         let from = level.from?;
-        self.own.gather(&self.tracks, depth, label);
-        let mut next = self.own.next_key(from, reads)?;
+        let mut next = self.joins[depth].next_key(from, reads)?;
         for i in tested.first..levels.len() {
             let other = &levels[i];
             if n_keys(&self.tracks, depth, other.label, reads) <= tested.most {

@@ -1,4 +1,4 @@
-use Rattle.std.proofs.Common.{length, sym, ap, subst, arith}
+use Rattle.std.proofs.Common.{length, refl, sym, ◌∙◌, ap, subst, arith}
 use Rattle.key_join.specs.Least.{IsLeastFrom}
 use Rattle.bag_list.specs.Joins.{HasRoom, IsJoin}
 use Rattle.bag_list.specs.Levels.{from_of}
@@ -14,10 +14,13 @@ loop-start-init g c = record {
     above = tt;
     reached = λ n k x s here lt le. absurd (omega (arith, lt));
   };
+  joins = refl;
   ready = record {
     low = c.requires.low;
+    within = c.requires.within;
     room = record {
-      own = c.requires.room.own;
+      number = c.requires.room.number;
+      joins = c.requires.room.joins;
       other = subst (λ ts. HasRoom (length ts) c.gather.new.self) c.deref.ensures.value c.gather.ensures.room;
       behind = c.requires.room.behind;
     };
@@ -38,7 +41,7 @@ returns-in_default-next_key-clause-least g c =
 
 pub returns-then-is_reached-clause-kept : goal.returns-then-is_reached-clause-kept
 returns-then-is_reached-clause-kept g c =
-    kept-twice g.O.Operand.depth_of g.O.Operand.tuples c.args.sought.depth c.args.self.now c.loop-start.self c.least_at-found.new.self c.loop-start.invariant.through.same c.least_at-found.ensures.kept
+    kept-twice g.O.Operand.depth_of g.O.Operand.tuples c.args.sought.depth c.args.self.now c.loop-start.self c.least_at-found.new.self c.loop-start.invariant.through.same c.loop-start.invariant.joins c.least_at-found.ensures.kept
 
 pub loop-start-preserved : goal.loop-start-preserved
 loop-start-preserved g c =
@@ -57,6 +60,7 @@ loop-start-preserved g c =
           c.after.ensures.next
           (λ x le admit. subst (λ b. IsReached b x) c.in-Some-next_key.is (least.least x (let is = ap from_of c.in-Some.is in omega (arith, is, le)) admit))
           c.least_at-found.ensures.kept.same c.least_at-found.ensures.from c.least_at-found.ensures.least);
+      joins = c.least_at-found.ensures.kept.joins ∙ c.loop-start.invariant.joins;
       ready = c.least_at-found.ensures.kept.ready;
       join =
           subst (IsJoin depth_of tuples new.tracks.items depth c.args.other) (sym c.least_at-found.ensures.other)

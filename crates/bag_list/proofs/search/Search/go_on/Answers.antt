@@ -6,13 +6,15 @@ use Rattle.std.specs.List.{AllByRecursion}
 use Rattle.std.specs.List.Sorted.{IsPermutation}
 use Rattle.std.specs.Prelude.{IfSome}
 use Rattle.bag_list.specs.declared.level.Level.{Level}
+use Rattle.bag_list.specs.Joins.{IsJoin}
 use Rattle.bag_list.specs.Levels.{AreBelow, from_of, tells, to_come}
 use Rattle.bag_list.specs.Search.{id_solutions}
 use Rattle.bag_list.specs.Tracks.{AdmitsAt, AllAdmitAt, HasSolutionAt, rests}
 use Rattle.bag_list.proofs.GoLemmas.{kept-back, kept-last, kept-with, last-small, less-back, less-on, rests-kept, to_come-last, went-back, went-on}
+use Rattle.bag_list.proofs.JoinLemmas.{joined-levels, joined-same, label-set, room-of}
 use Rattle.bag_list.proofs.Places.{permutation-equal}
 use Rattle.bag_list.proofs.SearchLemmas.{kept-entered, kept-equal, labels-small}
-use Rattle.bag_list.proofs.ThroughLemmas.{none-before, parts-same}
+use Rattle.bag_list.proofs.ThroughLemmas.{none-before, parts-same, sames-twice}
 use Rattle.bag_list.proofs.search.Search.go_on.Goals as goal
 
 not_last : (depth n : ℕ) → depth < n → (depth == n) ≡ false
@@ -27,6 +29,13 @@ index_mut-requires-in-Some g c =
     let is = c.from.ensures in
     omega (arith, small, n, is)
 
+pub next_left-requires-clause-join : goal.next_left-requires-clause-join
+next_left-requires-clause-join g c f j =
+    let s = c.args.self.now in
+    let d = c.requires.deep in
+    subst (λ ls. IsJoin g.O.Operand.depth_of g.O.Operand.tuples s.operands.tracks.items (s.depth - 1) (slice_index_or ls (s.depth - 1) f).label (slice_index_or s.operands.joins.items (s.depth - 1) j)) (sym c.deref.ensures.value)
+    (c.requires.kept.joins (s.depth - 1) f j (omega (arith, d)))
+
 pub returns-in-None-clause-kept : goal.returns-in-None-clause-kept
 returns-in-None-clause-kept g c =
     let s = c.args.self.now in
@@ -38,7 +47,8 @@ returns-in-None-clause-kept g c =
           (kept-back g.O.Operand.depth_of g.O.Operand.tuples (tells s.columns.items s.distinct) s.levels.items s.depth s.fresh s.told mid s.values.items kept c.requires.stale c.requires.deep);
       few = c.requires.kept.few;
       columns = c.requires.kept.columns;
-      room = c.next_left.ensures.kept.ready.room;
+      room = room-of (length s.levels.items) c.next_left.new.self (ap (λ js. length js.items) c.next_left.ensures.kept.joins ∙ c.requires.kept.room.number) c.next_left.ensures.kept.ready.room;
+      joins = joined-same g.O.Operand.depth_of g.O.Operand.tuples s.levels.items s.depth s.operands c.next_left.new.self c.requires.kept.joins (s.depth - 1) (s.depth - 1) same_mid c.next_left.ensures.kept.joins (omega arith) (omega arith);
       n_counts = c.requires.kept.n_counts;
     }
 
@@ -108,6 +118,7 @@ returns-in-Some-clause-kept g c =
     let now = c.enter_next-self.new.self.tracks.items in
     let same_now = c.enter_next-self.ensures.kept.same in
     let long = length-set s.levels.items (s.depth - 1) f in
+    let joins = c.enter_next-self.ensures.kept.joins ∙ c.next_left.ensures.kept.joins in
     let within : s.depth - 1 < length s.levels.items = let w = c.requires.kept.kept.within in let d = c.requires.deep in omega (arith, w, d) in
     record {
       kept = kept-equal g.O.Operand.depth_of g.O.Operand.tuples (tells s.columns.items s.distinct) (slice_set s.levels.items (s.depth - 1) f) (s.depth - 1 + 1) s.depth c.enter_next-self.result s.told now _ (slice_set s.values.items f.label f.key) (slice_set s.values.items c.from.result f.key)
@@ -120,7 +131,11 @@ returns-in-Some-clause-kept g c =
           (c.in-Some.ensures.admitted (none-before c.first_tested-first.result c.len.result (s.depth - 1) c.first_tested-first.ensures.within c.first_tested-first.ensures.before (c.len.ensures ∙ s.levels.ok.0 ∙ whole) ∙ c.len.ensures ∙ s.levels.ok.0 ∙ sym (ap length c.deref.ensures.value)) c.index.result.now)))));
       few = let few = c.requires.kept.few in omega (arith, few, long);
       columns = subst (λ m. AllByRecursion (λ v. IfSome v (λ l. l < m)) s.columns.items) (sym long) c.requires.kept.columns;
-      room = c.enter_next-self.ensures.kept.ready.room;
+      room = room-of (length (slice_set s.levels.items (s.depth - 1) f)) c.enter_next-self.new.self (ap (λ js. length js.items) joins ∙ c.requires.kept.room.number ∙ sym long) c.enter_next-self.ensures.kept.ready.room;
+      joins = joined-levels g.O.Operand.depth_of g.O.Operand.tuples s.levels.items s.depth c.enter_next-self.new.self c.enter_next-self.new.self
+          (joined-same g.O.Operand.depth_of g.O.Operand.tuples s.levels.items s.depth s.operands c.enter_next-self.new.self c.requires.kept.joins (s.depth - 1) s.depth
+          (sames-twice (s.depth - 1) s.operands.tracks.items mid now same_mid same_now) joins (omega arith) (let d = c.requires.deep in omega (arith, d)))
+          (slice_set s.levels.items (s.depth - 1) f) (λ i h _. label-set s.levels.items (s.depth - 1) f within (λ h. ap (λ x. x.label) (c.index.ensures ∙ get_or_default s.levels.items (s.depth - 1) c.index.result.now h within)) i h);
       n_counts = c.requires.kept.n_counts ∙ sym long;
     }
 

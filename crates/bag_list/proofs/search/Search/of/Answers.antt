@@ -3,6 +3,7 @@ use Rattle.std.specs.List.{AllByRecursion, filter, range_with_len}
 use Rattle.std.specs.Prelude.{IfSome, ◌<◌}
 use Rattle.bag_list.specs.declared.level.Level.{Level}
 use Rattle.bag_list.specs.Levels.{is_telling, level_labels}
+use Rattle.bag_list.specs.Operands.{AreRoom}
 use Rattle.bag_list.specs.Tracks.{AreTracks}
 use Rattle.bag_list.proofs.BeginLemmas.{coming-begun, kept-begun, n-levels}
 use Rattle.bag_list.proofs.search.Search.of.Goals as goal
@@ -22,7 +23,8 @@ returns-clause-kept g c =
           (subst (λ n. (fs : List Level) → AreTracks g.O.Operand.depth_of g.O.Operand.tuples n 1 fs tracks) c.from-n.ensures c.in_ok-operands.ensures.tracks);
       few = let few = c.requires.few in omega (arith, few, long);
       columns = subst (λ m. AllByRecursion (λ v. IfSome v (λ l. l < m)) columns) (sym long) c.requires.columns;
-      room = c.in_ok-operands.ensures.room;
+      room = subst (λ m. AreRoom m c.in_ok-operands.operands) (c.from-n.ensures ∙ sym long) c.in_ok-operands.ensures.room;
+      joins = λ i f j lt. absurd (omega (arith, lt));
       n_counts = counts ∙ sym long;
     }
 

@@ -1,11 +1,12 @@
 -- The patterns of a search, and what is gathered of them.
-use Rattle.std.specs.Prelude.{ℕ, ◌+◌, ◌<◌, ◌≡◌, List, length, slice_index_or}
+use Rattle.std.specs.Prelude.{ℕ, ◌+◌, ◌<◌, ◌≡◌, ◌≢◌, List, length, slice_index_or}
 use Rattle.hypertrie_model.specs.IdSets.{IdSet}
 use Rattle.bag_list.specs.declared.join.Join.{Join}
 use Rattle.bag_list.specs.declared.level.Level.{Level}
 use Rattle.bag_list.specs.declared.operands.Operands.{Operands}
+use Rattle.bag_list.specs.declared.track.Track.{Track}
 use Rattle.bag_list.specs.Joins.{HasRoom, IsJoin}
-use Rattle.bag_list.specs.Tracks.{AreParts, AreRoomy, AreSameTo}
+use Rattle.bag_list.specs.Tracks.{AllAdmitAt, AreFixed, AreParts, AreRoomy, AreSameTo}
 
 -- there is room for an operand of each pattern, at each of n levels and for the labels that a key is looked for through
 pub record AreRoom {O : Type 0} (n : ℕ) (s : Operands O) : Type 0 where
@@ -32,3 +33,23 @@ module _ {O : Type 0} (depth_of : O → ℕ) (tuples : O → IdSet) where
   -- what has the label was gathered for each of the first levels
   abbrev pub AreJoined : List Level → ℕ → Operands O → Type 0
   AreJoined levels depth s = (i : ℕ) (f : Level) (j : Join O) → i < depth → IsJoin depth_of tuples s.tracks.items i (slice_index_or levels i f).label (slice_index_or s.joins.items i j)
+
+  -- what has the label l at this depth was gathered there
+  abbrev pub IsOpened : List (Track O) → ℕ → ℕ → List (Join O) → Type 0
+  IsOpened tracks depth l joins = (j : Join O) → IsJoin depth_of tuples tracks depth l (slice_index_or joins depth j)
+
+  -- the same for the label of the level there
+  abbrev pub IsOpenAt : List Level → ℕ → Operands O → Type 0
+  IsOpenAt levels depth s = (f : Level) (j : Join O) → IsJoin depth_of tuples s.tracks.items depth (slice_index_or levels depth f).label (slice_index_or s.joins.items depth j)
+
+  -- the label of the level is fixed at its key
+  abbrev pub IsEntered : ℕ → Level → Operands O → Operands O → Type 0
+  IsEntered depth f s t = AreFixed depth_of tuples depth f.label f.key.0 s.tracks.items t.tracks.items
+
+-- the others are as before
+abbrev pub AreSameBut : {O : Type 0} → ℕ → List (Join O) → List (Join O) → Type 0
+AreSameBut depth old now = (i : ℕ) (j : Join _) → i ≢ depth → slice_index_or now i j ≡ slice_index_or old i j
+
+-- each pattern admits the key of the level at its label
+abbrev pub CanEnter : {O : Type 0} → (O → IdSet) → ℕ → Level → Operands O → Type 0
+CanEnter tuples depth f s = AllAdmitAt tuples s.tracks.items depth f.label f.key.0

@@ -116,5 +116,9 @@ module _ {O : Type 0} (depth_of : O → ℕ) (tuples : O → IdSet) where
     pub deep : IfSome s.op (λ o. depth_of o ≡ length (array_labels s.labels))
     pub some : IfSome s.op (λ o. tuples o ≢ empty nat_cmp)
 
+  -- each start is one
+  abbrev pub AllAreStarts : ℕ → List (Start O) → Type 0
+  AllAreStarts n starts = (i : ℕ) (s : Start O) → i < length starts → IsStart n (slice_index_or starts i s)
+
   abbrev pub AreTracks : ℕ → ℕ → List Level → List (Track O) → Type 0
   AreTracks n m fs tracks = (i : ℕ) (t : Track O) → i < length tracks → IsTrack n m fs (slice_index_or tracks i t)

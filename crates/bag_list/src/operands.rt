@@ -1,8 +1,7 @@
 //! The patterns of a search.
-ghost use Rattle.std.specs.Prelude.{◌≡◌, ◌≢◌, ◌<◌, ◌≤◌, ℕ, List, true, false, IsTrue, IfOk, length, slice_index_or};
-ghost use Rattle.bag_list.specs.Joins.{HasRoom, IsJoin};
-ghost use Rattle.bag_list.specs.Operands.{AreReady, AreRoom, IsKeptTo};
-ghost use Rattle.bag_list.specs.Tracks.{AllAdmitAt, AreFixed, AreTracks, HasEmpty, IsStart, rests, rests_of};
+ghost use Rattle.std.specs.Prelude.{◌≡◌, ◌≤◌, ℕ, true, false, IsTrue, IfOk};
+ghost use Rattle.bag_list.specs.Operands.{AreReady, AreRoom, AreSameBut, CanEnter, IsEntered, IsKeptTo, IsOpened};
+ghost use Rattle.bag_list.specs.Tracks.{AllAreStarts, AreTracks, HasEmpty, rests, rests_of};
 
 use crate::join::{Join, joins_of};
 use crate::level::Level;
@@ -27,7 +26,7 @@ impl<O: Operand> Operands<O> {
     /// The patterns of a search through so many labels, and whether these are all: none where one is empty.
     pub fn of(alloc: Global, starts: &[Start<O>], n: usize) -> Result<(Operands<O>, bool), Memory>
         requires few { n ≤ 96 }
-        requires starts { (i : ℕ) (s : _) → i < length starts.now → IsStart O.depth_of O.tuples n (slice_index_or starts.now i s) }
+        requires starts { AllAreStarts O.depth_of O.tuples n starts.now }
         ensures room { IfOk result (λ r. AreRoom n r.0) }
         ensures tracks { IfOk result (λ r. (fs : _) → AreTracks O.depth_of O.tuples n 1 fs r.0.tracks.items) }
         ensures whole { IfOk result (λ r. IsTrue r.1 → rests O.tuples r.0.tracks.items ≡ rests_of O.tuples starts.now) }
@@ -51,8 +50,8 @@ impl<O: Operand> Operands<O> {
         requires { AreReady O.depth_of O.tuples depth self.old }
         ensures tracks { self.new.tracks ≡ self.old.tracks }
         ensures room { (n : ℕ) → AreRoom n self.old → AreRoom n self.new }
-        ensures join { (j : _) → IsJoin O.depth_of O.tuples self.old.tracks.items depth label (slice_index_or self.new.joins.items depth j) }
-        ensures others { (i : ℕ) (j : _) → i ≢ depth → slice_index_or self.new.joins.items i j ≡ slice_index_or self.old.joins.items i j }
+        ensures join { IsOpened O.depth_of O.tuples self.old.tracks.items depth label self.new.joins.items }
+        ensures others { AreSameBut depth self.old.joins.items self.new.joins.items }
     {
         self.joins[depth].gather(&self.tracks, depth, label);
     }
@@ -62,8 +61,8 @@ impl<O: Operand> Operands<O> {
         requires { AreReady O.depth_of O.tuples depth self.old }
         ensures kept { IsKeptTo O.depth_of O.tuples depth self.old self.new }
         ensures other { self.new.other ≡ self.old.other }
-        ensures some { IsTrue result → AreFixed O.depth_of O.tuples depth level.label level.key.0 self.old.tracks.items self.new.tracks.items }
-        ensures none { result ≡ false → AllAdmitAt O.tuples self.old.tracks.items depth level.label level.key.0 → ⊥ }
+        ensures some { IsTrue result → IsEntered O.depth_of O.tuples depth level self.old self.new }
+        ensures none { result ≡ false → CanEnter O.tuples depth level self.old → ⊥ }
     {
         enter_all(&mut self.tracks, depth, level.label, level.key, reads)
     }
@@ -79,8 +78,8 @@ impl<O: Operand> Operands<O> {
     ) -> bool
         requires { AreReady O.depth_of O.tuples depth self.old }
         ensures kept { IsKeptTo O.depth_of O.tuples depth self.old self.new }
-        ensures some { IsTrue result → is_last ≡ false → AreFixed O.depth_of O.tuples depth level.label level.key.0 self.old.tracks.items self.new.tracks.items }
-        ensures none { result ≡ false → AllAdmitAt O.tuples self.old.tracks.items depth level.label level.key.0 → ⊥ }
+        ensures some { IsTrue result → is_last ≡ false → IsEntered O.depth_of O.tuples depth level self.old self.new }
+        ensures none { result ≡ false → CanEnter O.tuples depth level self.old → ⊥ }
     {
         if is_last {
             return true;

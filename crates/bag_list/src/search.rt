@@ -4,7 +4,7 @@ ghost use Rattle.std.specs.List.{AllByRecursion};
 ghost use Rattle.std.specs.List.Sorted.{IsPermutation};
 ghost use Rattle.bag_list.specs.Rows.{Row, row_here, rows_to_come};
 ghost use Rattle.bag_list.specs.Search.{IsKept, IsSameQuery, coming_of, id_solutions, steps_left};
-ghost use Rattle.bag_list.specs.Tracks.{AreParts, AreRoomy, IsStart, rests_of};
+ghost use Rattle.bag_list.specs.Tracks.{AllAreStarts, AreParts, AreRoomy, rests_of};
 
 use crate::level::{Level, after, levels_of};
 use crate::operands::Operands;
@@ -47,7 +47,7 @@ impl<O: Operand> Search<O> {
         distinct: bool,
     ) -> Result<Search<O>, Memory>
         requires few { n ≤ 96 }
-        requires starts { (i : ℕ) (s : _) → i < length starts.now → IsStart O.depth_of O.tuples n (slice_index_or starts.now i s) }
+        requires starts { AllAreStarts O.depth_of O.tuples n starts.now }
         requires columns { AllByRecursion (λ v. IfSome v (λ l. l < n)) columns.items }
         ensures kept { IfOk result (λ s. IsKept O.depth_of O.tuples s) }
         ensures coming { IfOk result (λ s. coming_of O.tuples s ≡ id_solutions n (rests_of O.tuples starts.now)) }

@@ -1,10 +1,8 @@
 //! The next key of a label at which what is left may have a solution.
-ghost use Rattle.std.specs.Prelude.{◌≡◌, ◌+◌, ◌<◌, ◌≤◌, ℕ, None, IfSome, IsTrue, length, slice_index_or, Some, MatchOption};
-ghost use Rattle.hypertrie_model.specs.Slices.{at};
-ghost use Rattle.bag_list.specs.Joins.{IsJoin};
-ghost use Rattle.bag_list.specs.Levels.{AreBelow, from_of, lesser_of};
-ghost use Rattle.bag_list.specs.Operands.{AreReady, IsKeptTo};
-ghost use Rattle.bag_list.specs.Tracks.{AllAdmitAt, HasSolutionAt};
+ghost use Rattle.std.specs.Prelude.{◌≡◌, ◌<◌, ◌≤◌, IfSome, IsTrue, length, MatchOption};
+ghost use Rattle.bag_list.specs.Levels.{lesser_of};
+ghost use Rattle.bag_list.specs.Operands.{AreReady, IsKeptTo, IsOpenAt};
+ghost use Rattle.bag_list.specs.Through.{AllAdmitNext, IsStillToTry, NoneAtBefore, NoneBefore, NoneLeftBefore};
 
 use crate::level::{Level, after};
 use crate::operands::Operands;
@@ -39,11 +37,11 @@ impl<O: Operand> Operands<O> {
     ) -> Option<Id>
         requires within { (depth < length levels.now) × (tested.first ≤ length levels.now) }
         requires ready { AreReady O.depth_of O.tuples depth self.old }
-        requires join { (f j : _) → IsJoin O.depth_of O.tuples self.old.tracks.items depth (slice_index_or levels.now depth f).label (slice_index_or self.old.joins.items depth j) }
+        requires join { IsOpenAt O.depth_of O.tuples levels.now depth self.old }
         ensures kept { IsKeptTo O.depth_of O.tuples depth self.old self.new }
-        ensures from { (f : _) → IfSome result (λ r. from_of (slice_index_or levels.now depth f).from ≤ r.0) }
-        ensures admitted { tested.first ≡ length levels.now → (f : _) → IfSome result (λ r. AllAdmitAt O.tuples self.old.tracks.items depth (slice_index_or levels.now depth f).label r.0) }
-        ensures least { (n k : ℕ) (f : _) → AreBelow n levels.now → HasSolutionAt O.tuples n self.old.tracks.items depth (slice_index_or levels.now depth f).label k → from_of (slice_index_or levels.now depth f).from ≤ k → MatchOption result ⊥ (λ r. r.0 ≤ k) }
+        ensures from { IsStillToTry levels.now depth result }
+        ensures admitted { tested.first ≡ length levels.now → AllAdmitNext O.tuples self.old levels.now depth result }
+        ensures least { NoneLeftBefore O.tuples self.old levels.now depth result }
     {
         let level = &levels[depth];
         let label = level.label;
@@ -73,7 +71,7 @@ impl<O: Operand> Operands<O> {
         requires { AreReady O.depth_of O.tuples sought.depth self.old }
         ensures kept { IsKeptTo O.depth_of O.tuples sought.depth self.old self.new }
         ensures from { IfSome result (λ r. sought.from.0 ≤ r.0) }
-        ensures least { (n k : ℕ) → other < n → HasSolutionAt O.tuples n self.old.tracks.items sought.depth sought.label k → sought.from.0 ≤ k → MatchOption result ⊥ (λ r. r.0 ≤ k) }
+        ensures least { NoneBefore O.tuples self.old other sought result }
     {
         self.other.gather(&self.tracks, sought.depth, other);
         let mut best = None;
@@ -108,7 +106,7 @@ impl<O: Operand> Operands<O> {
         ensures kept { IsKeptTo O.depth_of O.tuples sought.depth self.old self.new }
         ensures other { self.new.other ≡ self.old.other }
         ensures from { IfSome result (λ r. sought.from.0 ≤ r.0) }
-        ensures least { (n k : ℕ) (s : HasSolutionAt O.tuples n self.old.tracks.items sought.depth sought.label k) → at level.label s.solution ≡ Some level.key.0 → sought.from.0 ≤ k → MatchOption result ⊥ (λ r. r.0 ≤ k) }
+        ensures least { NoneAtBefore O.tuples self.old level sought result }
     {
         if !self.enter(sought.depth, level, reads) {
             return None;

@@ -1,7 +1,7 @@
 //! A pattern as it is while labels are fixed.
 ghost use Rattle.std.specs.Prelude.{◌≡◌, ◌+◌, ◌<◌, ◌≤◌, ℕ, List, true, false, IsTrue, IsNone, IfSome, IfOk, length, take, slice_index_or, MatchOption};
 ghost use Rattle.bag_list.specs.declared.level.Level.{Level};
-ghost use Rattle.bag_list.specs.Tracks.{AdmitsAt, AllAdmitAt, AreFixed, AreParts, AreRoomy, AreSameTo, AreTracks, HasEmpty, IsFixed, IsPart, IsSameTo, IsStart, rests, rests_of};
+ghost use Rattle.bag_list.specs.Tracks.{AdmitsAt, AllAdmitAt, AllAreStarts, AreFixed, AreParts, AreRoomy, AreSameTo, AreTracks, HasEmpty, IsFixed, IsPart, IsSameTo, rests, rests_of};
 
 use crate::labels::Labels;
 use std::alloc::Global;
@@ -138,7 +138,7 @@ pub fn tracks_of<O: Operand>(
     n: usize,
 ) -> Result<(Vec<Track<O>>, bool), Memory>
     requires few { n ≤ 96 }
-    requires starts { (i : ℕ) (s : _) → i < length starts.now → IsStart O.depth_of O.tuples n (slice_index_or starts.now i s) }
+    requires starts { AllAreStarts O.depth_of O.tuples n starts.now }
     ensures tracks { IfOk result (λ r. (fs : List Level) → AreTracks O.depth_of O.tuples n 1 fs r.0.items) }
     ensures whole { IfOk result (λ r. IsTrue r.1 → rests O.tuples r.0.items ≡ rests_of O.tuples starts.now) }
     ensures empty { IfOk result (λ r. r.1 ≡ false → HasEmpty starts.now) }

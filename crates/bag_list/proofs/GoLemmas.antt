@@ -15,11 +15,11 @@ use Rattle.bag_list.specs.declared.level.Level.{Level}
 use Rattle.bag_list.specs.declared.track.Track.{Track}
 use Rattle.bag_list.specs.Levels.{agrees, from_of, is_below, to_come}
 use Rattle.bag_list.specs.Search.{AreKept, id_solutions, weight}
-use Rattle.bag_list.specs.Tracks.{AllAdmitAt, HasSolutionAt, IsSameTo, rests}
+use Rattle.bag_list.specs.Tracks.{AllAdmitAt, AreSameTo, HasSolutionAt, rests}
 use Rattle.bag_list.proofs.ComingLemmas.{all-weaker, closed, entered}
 use Rattle.bag_list.proofs.Images.{at-is_at}
 use Rattle.bag_list.proofs.MemberLemmas.{IsMember, all-left, at-there, below-at, solution-admits, solution-left}
-use Rattle.bag_list.proofs.SearchLemmas.{kept-fewer, kept-same, labels-small}
+use Rattle.bag_list.proofs.SearchLemmas.{kept-fewer, kept-same, labels-small, rests-same}
 use Rattle.bag_list.proofs.WeightLemmas.{closed-less, entered-less}
 
 module _ {O : Type 0} (depth_of : O → ℕ) (tuples : O → IdSet) (deep : (o : O) → HasDepth (depth_of o) (tuples o)) (telling : ℕ → Bool) (levels : List Level) (told : ℕ) (tracks : List (Track O)) (values : List Id) (last : ℕ) (kept : AreKept depth_of tuples telling levels (last + 1) false told tracks values) (f : Level) (is : f ≡ slice_index_or levels last f) where
@@ -70,6 +70,10 @@ module _ {O : Type 0} (depth_of : O → ℕ) (tuples : O → IdSet) (deep : (o :
           ]
         ]
 
+-- the patterns start as before
+pub rests-kept : {O : Type 0} (tuples : O → IdSet) (depth : ℕ) (old now : List (Track O)) → AreSameTo depth old now → rests tuples now ≡ rests tuples old
+rests-kept tuples depth old now same = rests-same tuples old now same.number (λ i t lt. (same.each i t lt).start)
+
 module _ {O : Type 0} (depth_of : O → ℕ) (tuples : O → IdSet) (telling : ℕ → Bool) (levels : List Level) (depth : ℕ) (fresh : Bool) (told : ℕ) (tracks : List (Track O)) (values : List Id) (kept : AreKept depth_of tuples telling levels depth fresh told tracks values) (stale : fresh ≡ false) (deep : 0 < depth) where
   pub is-last : depth ≡ depth - 1 + 1
   is-last = omega (arith, deep)
@@ -80,11 +84,11 @@ module _ {O : Type 0} (depth_of : O → ℕ) (tuples : O → IdSet) (telling : �
       (subst (λ d. AreKept depth_of tuples telling levels d fresh told tracks values) is-last kept)
 
   -- with other patterns that have the same parts
-  pub kept-with : (now : List (Track O)) → length now ≡ length tracks → ((i : ℕ) (t : Track O) → i < length tracks → IsSameTo (depth - 1) (slice_index_or tracks i t) (slice_index_or now i t)) → AreKept depth_of tuples telling levels depth fresh told now values
-  kept-with now n_now same =
+  pub kept-with : (now : List (Track O)) → AreSameTo (depth - 1) tracks now → AreKept depth_of tuples telling levels depth fresh told now values
+  kept-with now same =
       subst (λ b. AreKept depth_of tuples telling levels depth b told now values) (sym stale)
       (subst (λ d. AreKept depth_of tuples telling levels d false told now values) (sym is-last)
-      (kept-same depth_of tuples telling levels told tracks values (depth - 1) now n_now same kept-last))
+      (kept-same depth_of tuples telling levels told tracks values (depth - 1) now same.number same.each kept-last))
 
   pub kept-back : AreKept depth_of tuples telling levels (depth - 1) fresh told tracks values
   kept-back =

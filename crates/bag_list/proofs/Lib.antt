@@ -9,6 +9,7 @@ pub mod WeightLemmas
 pub mod SearchLemmas
 pub mod MemberLemmas
 pub mod ThroughLemmas
+pub mod JoinLemmas
 pub mod GoLemmas
 pub mod FoundLemmas
 pub mod BeginLemmas

@@ -12,11 +12,13 @@ use Rattle.trie_depth.specs.declared.id.Id.{Id}
 use Rattle.key_join.specs.Least.{IsLeastFrom}
 use Rattle.bag_model.specs.Solutions.{image}
 use Rattle.bag_list.specs.declared.level.Level.{Level}
+use Rattle.bag_list.specs.declared.operands.Operands.{Operands}
 use Rattle.bag_list.specs.declared.track.Part.{Part}
 use Rattle.bag_list.specs.declared.track.Track.{Track}
 use Rattle.bag_list.specs.Labels.{labels_of}
 use Rattle.bag_list.specs.Levels.{AreBelow, from_of, lesser_of}
-use Rattle.bag_list.specs.Tracks.{AllAdmitAt, AllHold, HasSolutionAt, IsFixed, IsPart, IsSameTo, part_at}
+use Rattle.bag_list.specs.Operands.{IsKeptTo}
+use Rattle.bag_list.specs.Tracks.{AllAdmitAt, AllHold, AreParts, AreSameTo, HasSolutionAt, IsFixed, IsPart, IsSameTo, part_at}
 use Rattle.bag_list.proofs.Images.{image-admits, is_at-at}
 use Rattle.bag_list.proofs.MemberLemmas.{at-there}
 use Rattle.bag_list.proofs.TrackLemmas.{part-deep}
@@ -105,21 +107,39 @@ same-twice depth x y z first second = record {
   parts = λ j p le. second.parts j p le ∙ first.parts j p le;
 }
 
+pub sames-twice : {O : Type 0} (depth : ℕ) (x y z : List (Track O)) → AreSameTo depth x y → AreSameTo depth y z → AreSameTo depth x z
+sames-twice depth x y z first second = record {
+  number = second.number ∙ first.number;
+  each = λ i t lt. same-twice depth _ _ _ (first.each i t lt) (second.each i t (let n = first.number in omega (arith, lt, n)));
+}
+
+pub same-before : {O : Type 0} (depth d : ℕ) (x y : List (Track O)) → d ≤ depth → AreSameTo depth x y → AreSameTo d x y
+same-before depth d x y le same = record {
+  number = same.number;
+  each = λ i t lt. let s = same.each i t lt in record { start = s.start; room = s.room; parts = λ j p low. s.parts j p (omega (arith, low, le)) };
+}
+
+pub same-itself : {O : Type 0} (depth : ℕ) (tracks : List (Track O)) → AreSameTo depth tracks tracks
+same-itself depth tracks = record { number = refl; each = λ i t lt. record { start = refl; room = refl; parts = λ _ _ _. refl } }
+
+pub kept-twice : {O : Type 0} (depth_of : O → ℕ) (tuples : O → IdSet) (depth : ℕ) (x y z : Operands O) → AreSameTo depth x.tracks.items y.tracks.items → y.joins ≡ x.joins → IsKeptTo depth_of tuples depth y z → IsKeptTo depth_of tuples depth x z
+kept-twice depth_of tuples depth x y z same joins kept = record { same = sames-twice depth _ _ _ same kept.same; joins = kept.joins ∙ joins; ready = kept.ready }
+
 -- ---- the keys of another label
 
 -- a solution that has at the label m a key below `start` has at the label l no key below `best`
 pub record AreThrough {O : Type 0} (tuples : O → IdSet) (old now : List (Track O)) (depth l m from start : ℕ) (best : Option Id) : Type 0 where
-  pub same : (i : ℕ) (t : Track O) → i < length old → IsSameTo depth (slice_index_or old i t) (slice_index_or now i t)
+  pub same : AreSameTo depth old now
   pub above : IfSome best (λ r. from ≤ r.0)
   pub reached : (n k x : ℕ) (s : HasSolutionAt tuples n old depth l k) → at m s.solution ≡ Some x → x < start → from ≤ k → IsReached best k
 
-module _ {O : Type 0} (depth_of : O → ℕ) (tuples : O → IdSet) (deep : (o : O) → HasDepth (depth_of o) (tuples o)) (old now : List (Track O)) (depth l m from start : ℕ) (best : Option Id) (n_now : length now ≡ length old) (parts : (i : ℕ) (t : Track O) (p : Part O) → i < length old → IsPart depth_of tuples (part_at old depth i t p)) (before : AreThrough tuples old now depth l m from start best) where
+module _ {O : Type 0} (depth_of : O → ℕ) (tuples : O → IdSet) (deep : (o : O) → HasDepth (depth_of o) (tuples o)) (old now : List (Track O)) (depth l m from start : ℕ) (best : Option Id) (parts : AreParts depth_of tuples depth old) (before : AreThrough tuples old now depth l m from start best) where
   -- the key that a solution has at the label m is admitted
   through-admits : (n k x : ℕ) (s : HasSolutionAt tuples n old depth l k) → at m s.solution ≡ Some x → AllAdmitAt tuples now depth m x
   unfolding solution-same
   through-admits n k x s here =
-      holding-admits depth_of tuples deep now depth s.solution m x (parts-same old now depth n_now before.same (IsPart depth_of tuples) parts)
-      (solution-same old now depth n_now before.same tuples n l k s).holds here
+      holding-admits depth_of tuples deep now depth s.solution m x (parts-same old now depth before.same.number before.same.each (IsPart depth_of tuples) parts)
+      (solution-same old now depth before.same.number before.same.each tuples n l k s).holds here
 
   never : (b : Option Id) (k : ℕ) → ((key : Id) → b ≡ Some key → ⊥) → IsReached b k → ⊥
   never None k none le = le
@@ -136,19 +156,19 @@ module _ {O : Type 0} (depth_of : O → ℕ) (tuples : O → IdSet) (deep : (o :
 
   -- one more
   pub through-more : (key next : ℕ) (found : Option Id) (after : List (Track O)) → next ≡ key + 1 → ((x : ℕ) → start ≤ x → AllAdmitAt tuples now depth m x → key ≤ x)
-      → ((i : ℕ) (t : Track O) → i < length now → IsSameTo depth (slice_index_or now i t) (slice_index_or after i t)) → IfSome found (λ r. from ≤ r.0)
+      → AreSameTo depth now after → IfSome found (λ r. from ≤ r.0)
       → ((n k : ℕ) (s : HasSolutionAt tuples n now depth l k) → at m s.solution ≡ Some key → from ≤ k → IsReached found k)
       → AreThrough tuples old after depth l m from next (lesser_of best found)
   unfolding solution-same
   through-more key next found after is least same above reached = record {
-    same = λ i t lt. same-twice depth _ _ _ (before.same i t lt) (same i t (omega (arith, lt, n_now)));
+    same = sames-twice depth old now after before.same same;
     above = lesser-from best found from before.above above;
     reached = λ n k x s here low le. elim (dec_lt x start) as (λ _. IsReached (lesser_of best found) k) [
       | yes early ↦ lesser-first best found k (before.reached n k x s here early le)
       | no late ↦
           let not_below = least x (omega (arith, late)) (through-admits n k x s here) in
           let is : x ≡ key = omega (arith, not_below, low, is) in
-          lesser-second best found k (reached n k (solution-same old now depth n_now before.same tuples n l k s) (subst (λ y. at m s.solution ≡ Some y) is here) le)
+          lesser-second best found k (reached n k (solution-same old now depth before.same.number before.same.each tuples n l k s) (subst (λ y. at m s.solution ≡ Some y) is here) le)
     ];
   }
 
@@ -163,7 +183,7 @@ through-all tuples old now depth l m from start best all end n k lt s le =
 
 -- no solution has at the label of the level a key that is still to be tried and is below `next`
 pub record IsRaised {O : Type 0} (tuples : O → IdSet) (levels : List Level) (old now : List (Track O)) (depth first next : ℕ) : Type 0 where
-  pub same : (i : ℕ) (t : Track O) → i < length old → IsSameTo depth (slice_index_or old i t) (slice_index_or now i t)
+  pub same : AreSameTo depth old now
   pub above : (f : Level) → from_of (slice_index_or levels depth f).from ≤ next
   pub least : (n k : ℕ) (f : Level) → AreBelow n levels → HasSolutionAt tuples n old depth (slice_index_or levels depth f).label k → from_of (slice_index_or levels depth f).from ≤ k → next ≤ k
   pub admitted : first ≡ length levels → (f : Level) → AllAdmitAt tuples old depth (slice_index_or levels depth f).label next
@@ -172,7 +192,7 @@ pub record IsRaised {O : Type 0} (tuples : O → IdSet) (levels : List Level) (o
 pub level-at : (levels : List Level) (depth : ℕ) (f : Level) → f ≡ slice_index_or levels depth f → depth < length levels → (g : Level) → f ≡ slice_index_or levels depth g
 level-at levels depth f is within g = is ∙ get_or_default levels depth f g within
 
-module _ {O : Type 0} (depth_of : O → ℕ) (tuples : O → IdSet) (deep : (o : O) → HasDepth (depth_of o) (tuples o)) (levels : List Level) (tracks : List (Track O)) (depth first : ℕ) (parts : (i : ℕ) (t : Track O) (p : Part O) → i < length tracks → IsPart depth_of tuples (part_at tracks depth i t p)) (f : Level) (is : f ≡ slice_index_or levels depth f) (within : depth < length levels) (from : ℕ) (at_from : from_of f.from ≡ from) (found : Option Id) (least : IsLeastFrom from (AllAdmitAt tuples tracks depth f.label) found) where
+module _ {O : Type 0} (depth_of : O → ℕ) (tuples : O → IdSet) (deep : (o : O) → HasDepth (depth_of o) (tuples o)) (levels : List Level) (tracks : List (Track O)) (depth first : ℕ) (parts : AreParts depth_of tuples depth tracks) (f : Level) (is : f ≡ slice_index_or levels depth f) (within : depth < length levels) (from : ℕ) (at_from : from_of f.from ≡ from) (found : Option Id) (least : IsLeastFrom from (AllAdmitAt tuples tracks depth f.label) found) where
   level-is : (g : Level) → f ≡ slice_index_or levels depth g
   level-is g = level-at levels depth f is within g
 
@@ -185,7 +205,7 @@ module _ {O : Type 0} (depth_of : O → ℕ) (tuples : O → IdSet) (deep : (o :
 
   pub next-raised : (key : Id) → found ≡ Some key → IsRaised tuples levels tracks tracks depth first key.0
   next-raised key e = record {
-    same = λ i t lt. record { start = refl; room = refl; parts = λ _ _ _. refl };
+    same = same-itself depth tracks;
     above = λ g.
         let low = ap (λ h. from_of h.from) (level-is g) in
         let up : from ≤ key.0 = subst (λ b. IfSome b (λ r. from ≤ r.0)) e least.above in
@@ -194,15 +214,15 @@ module _ {O : Type 0} (depth_of : O → ℕ) (tuples : O → IdSet) (deep : (o :
     admitted = λ _ g. subst (λ h. AllAdmitAt tuples tracks depth h.label key.0) (level-is g) (subst (λ b. IfSome b (λ r. AllAdmitAt tuples tracks depth f.label r.0)) e least.there);
   }
 
-module _ {O : Type 0} (tuples : O → IdSet) (levels : List Level) (old now : List (Track O)) (depth first next : ℕ) (n_now : length now ≡ length old) (before : IsRaised tuples levels old now depth first next) (l m : ℕ) (at_label : (g : Level) → l ≡ (slice_index_or levels depth g).label) (listed : (n : ℕ) → AreBelow n levels → m < n) (found : Option Id) (least : (n k : ℕ) → m < n → HasSolutionAt tuples n now depth l k → next ≤ k → IsReached found k) where
+module _ {O : Type 0} (tuples : O → IdSet) (levels : List Level) (old now : List (Track O)) (depth first next : ℕ) (before : IsRaised tuples levels old now depth first next) (l m : ℕ) (at_label : (g : Level) → l ≡ (slice_index_or levels depth g).label) (listed : (n : ℕ) → AreBelow n levels → m < n) (found : Option Id) (least : (n k : ℕ) → m < n → HasSolutionAt tuples n now depth l k → next ≤ k → IsReached found k) where
   -- once it was raised through one label more
   pub raised-reached : (n k : ℕ) (g : Level) → AreBelow n levels → HasSolutionAt tuples n old depth (slice_index_or levels depth g).label k → from_of (slice_index_or levels depth g).from ≤ k → IsReached found k
   raised-reached n k g below s le =
-      least n k (listed n below) (solution-same old now depth n_now before.same tuples n l k (subst (λ i. HasSolutionAt tuples n old depth i k) (sym (at_label g)) s)) (before.least n k g below s le)
+      least n k (listed n below) (solution-same old now depth before.same.number before.same.each tuples n l k (subst (λ i. HasSolutionAt tuples n old depth i k) (sym (at_label g)) s)) (before.least n k g below s le)
 
-  pub raised-more : (key : Id) (after : List (Track O)) → found ≡ Some key → next ≤ key.0 → ((i : ℕ) (t : Track O) → i < length now → IsSameTo depth (slice_index_or now i t) (slice_index_or after i t)) → first < length levels → IsRaised tuples levels old after depth first key.0
+  pub raised-more : (key : Id) (after : List (Track O)) → found ≡ Some key → next ≤ key.0 → AreSameTo depth now after → first < length levels → IsRaised tuples levels old after depth first key.0
   raised-more key after e up same some = record {
-    same = λ i t lt. same-twice depth _ _ _ (before.same i t lt) (same i t (omega (arith, lt, n_now)));
+    same = sames-twice depth old now after before.same same;
     above = λ g. let low = before.above g in omega (arith, low, up);
     least = λ n k g below s le. subst (λ b. IsReached b k) e (raised-reached n k g below s le);
     admitted = λ is g. absurd (omega (arith, is, some));

@@ -1,6 +1,9 @@
 pub mod Labels
 pub mod Levels
 pub mod Tracks
+pub mod Joins
+pub mod Operands
+pub mod Through
 pub mod Search
 pub mod Rows
 pub mod Listing

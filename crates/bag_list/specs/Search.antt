@@ -10,6 +10,7 @@ use Rattle.bag_list.specs.declared.level.Level.{Level}
 use Rattle.bag_list.specs.declared.search.Search.{Search}
 use Rattle.bag_list.specs.Levels.{from_of, to_come, level_labels, n_fresh, tells}
 use Rattle.bag_list.specs.declared.track.Track.{Track}
+use Rattle.bag_list.specs.Operands.{AreJoined, AreRoom}
 use Rattle.bag_list.specs.Tracks.{rests, AllAdmitAt, AreTracks}
 
 -- all numbers of ids below n, and the assignments of ids
@@ -41,7 +42,7 @@ steps_left s = weight (length s.levels.items) (fixed_levels s) s.fresh
 
 -- the solutions that are still to come
 abbrev pub coming_of : {O : Type 0} → (O → IdSet) → Search O → List (List ℕ)
-coming_of tuples s = to_come (id_solutions (length s.levels.items) (rests tuples s.tracks.items)) (fixed_levels s) s.fresh
+coming_of tuples s = to_come (id_solutions (length s.levels.items) (rests tuples s.operands.tracks.items)) (fixed_levels s) s.fresh
 
 -- the key of the level is one of an id, and won't be tried again
 abbrev pub IsTried : Level → Type 0
@@ -64,16 +65,16 @@ module _ {O : Type 0} (depth_of : O → ℕ) (tuples : O → IdSet) where
         → AllAdmitAt tuples tracks last (slice_index_or levels last f).label (slice_index_or levels last f).key.0
 
   pub record IsKept (s : Search O) : Type 0 where
-    pub kept : AreKept (tells s.columns.items s.distinct) s.levels.items s.depth s.fresh s.told s.tracks.items s.values.items
+    pub kept : AreKept (tells s.columns.items s.distinct) s.levels.items s.depth s.fresh s.told s.operands.tracks.items s.values.items
     pub few : length s.levels.items ≤ 96
     pub columns : AllByRecursion (λ v. IfSome v (λ l. l < length s.levels.items)) s.columns.items
-    pub n_ops : length s.ops.items ≡ length s.tracks.items
-    pub n_masks : length s.masks.items ≡ length s.tracks.items
+    pub room : AreRoom (length s.levels.items) s.operands
+    pub joins : AreJoined depth_of tuples s.levels.items s.depth s.operands
     pub n_counts : length s.counts.items ≡ length s.levels.items
 
 -- both are of one query
 pub record IsSameQuery {O : Type 0} (tuples : O → IdSet) (s t : Search O) : Type 0 where
   pub n : length t.levels.items ≡ length s.levels.items
-  pub rests : rests tuples t.tracks.items ≡ rests tuples s.tracks.items
+  pub rests : rests tuples t.operands.tracks.items ≡ rests tuples s.operands.tracks.items
   pub columns : t.columns.items ≡ s.columns.items
   pub distinct : t.distinct ≡ s.distinct

@@ -29,6 +29,15 @@ pub record IsSameTo {O : Type 0} (depth : ℕ) (s t : Track O) : Type 0 where
   pub room : length t.parts.items ≡ length s.parts.items
   pub parts : (j : ℕ) (p : Part O) → j ≤ depth → slice_index_or t.parts.items j p ≡ slice_index_or s.parts.items j p
 
+-- the patterns are as many, and each is the same up to this depth
+pub record AreSameTo {O : Type 0} (depth : ℕ) (old now : List (Track O)) : Type 0 where
+  pub number : length now ≡ length old
+  pub each : (i : ℕ) (t : Track O) → i < length old → IsSameTo depth (slice_index_or old i t) (slice_index_or now i t)
+
+-- each pattern has a place for what is left of it after so many levels
+abbrev pub AreRoomy : {O : Type 0} → ℕ → List (Track O) → Type 0
+AreRoomy depth tracks = (i : ℕ) (t : Track _) → i < length tracks → depth < length (slice_index_or tracks i t).parts.items
+
 -- some start has no operand
 abbrev pub HasEmpty : {O : Type 0} → List (Start O) → Type 0
 HasEmpty starts = (i : ℕ) × (i < length starts) × ((s : Start _) → (slice_index_or starts i s).op ≡ None)
@@ -75,11 +84,19 @@ module _ {O : Type 0} (depth_of : O → ℕ) (tuples : O → IdSet) where
     pub deep : depth_of p.op ≡ length (labels_of p.labels)
     pub some : tuples p.op ≢ empty nat_cmp
 
+  -- something is left of each pattern after so many levels
+  abbrev pub AreParts : ℕ → List (Track O) → Type 0
+  AreParts depth tracks = (i : ℕ) (t : Track O) (p : Part O) → i < length tracks → IsPart (part_at tracks depth i t p)
+
   -- r is what is left of p where the label l has the key k
   pub record IsFixed (l k : ℕ) (p r : Part O) : Type 0 where
     pub part : IsPart r
     pub labels : labels_of r.labels ≡ without l (labels_of p.labels)
     pub image : (a : List ℕ) → is_at nat_cmp l k a ≡ true → has (tuples r.op) (image a (labels_of r.labels)) ≡ has (tuples p.op) (image a (labels_of p.labels))
+
+  -- now is what is left of each pattern one level deeper, where the label l has the key k
+  abbrev pub AreFixed : ℕ → ℕ → ℕ → List (Track O) → List (Track O) → Type 0
+  AreFixed depth l k old now = (i : ℕ) (t : Track O) (p : Part O) → i < length old → IsFixed l k (part_at old depth i t p) (part_at now (depth + 1) i t p)
 
   -- p is what the keys of the levels leave of s
   pub record IsLeft (fs : List Level) (s p : Part O) : Type 0 where
@@ -98,6 +115,10 @@ module _ {O : Type 0} (depth_of : O → ℕ) (tuples : O → IdSet) where
     pub below : AllByRecursion (λ l. l < n) (array_labels s.labels)
     pub deep : IfSome s.op (λ o. depth_of o ≡ length (array_labels s.labels))
     pub some : IfSome s.op (λ o. tuples o ≢ empty nat_cmp)
+
+  -- each start is one
+  abbrev pub AllAreStarts : ℕ → List (Start O) → Type 0
+  AllAreStarts n starts = (i : ℕ) (s : Start O) → i < length starts → IsStart n (slice_index_or starts i s)
 
   abbrev pub AreTracks : ℕ → ℕ → List Level → List (Track O) → Type 0
   AreTracks n m fs tracks = (i : ℕ) (t : Track O) → i < length tracks → IsTrack n m fs (slice_index_or tracks i t)

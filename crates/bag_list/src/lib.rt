@@ -3,9 +3,11 @@
 //! which are still to come of a listing.
 #![tactic(auto)]
 
+mod join;
 mod labels;
 mod level;
 mod lister;
+mod operands;
 mod search;
 mod through;
 mod track;

@@ -4,15 +4,16 @@ ghost use Rattle.std.specs.List.{AllByRecursion};
 ghost use Rattle.std.specs.List.Sorted.{IsPermutation};
 ghost use Rattle.bag_list.specs.Rows.{Row, row_here, rows_to_come};
 ghost use Rattle.bag_list.specs.Search.{IsKept, IsSameQuery, coming_of, id_solutions, steps_left};
-ghost use Rattle.bag_list.specs.Tracks.{IsPart, IsStart, part_at, rests_of};
+ghost use Rattle.bag_list.specs.Tracks.{AllAreStarts, AreParts, AreRoomy, rests_of};
 
 use crate::level::{Level, after, levels_of};
-use crate::through::next_left;
-use crate::track::{Start, Track, enter_next, n_keys, ops_of, tracks_of};
+use crate::operands::Operands;
+use crate::through::Tested;
+use crate::track::{Start, Track, n_keys};
 use query_plan::choose;
 use std::alloc::Global;
 use std::sync::ledger::Ledger;
-use trie_depth::{Id, Mask, Memory, Operand, Steps};
+use trie_depth::{Id, Memory, Operand, Steps};
 
 /// As many places as there can be labels, all allowed.
 static ALLOWED: [bool; 96] = [true; 96];
@@ -28,11 +29,9 @@ pub struct Search<O: Operand> {
     pub fresh: bool,
     /// The labels of so many levels tell rows apart.
     pub told: usize,
-    pub tracks: Vec<Track<O>>,
+    pub operands: Operands<O>,
     /// The key of each label, where it is fixed.
     pub values: Vec<Id>,
-    pub ops: Vec<O>,
-    pub masks: Vec<Mask>,
     pub counts: Vec<u64>,
     /// How many keys of the last label that tells rows apart were tried since the last row.
     pub tries: u64,
@@ -48,7 +47,7 @@ impl<O: Operand> Search<O> {
         distinct: bool,
     ) -> Result<Search<O>, Memory>
         requires few { n ≤ 96 }
-        requires starts { (i : ℕ) (s : _) → i < length starts.now → IsStart O.depth_of O.tuples n (slice_index_or starts.now i s) }
+        requires starts { AllAreStarts O.depth_of O.tuples n starts.now }
         requires columns { AllByRecursion (λ v. IfSome v (λ l. l < n)) columns.items }
         ensures kept { IfOk result (λ s. IsKept O.depth_of O.tuples s) }
         ensures coming { IfOk result (λ s. coming_of O.tuples s ≡ id_solutions n (rests_of O.tuples starts.now)) }
@@ -56,10 +55,8 @@ impl<O: Operand> Search<O> {
     {
         let (levels, told) = levels_of(alloc, n, &columns, distinct)?;
         let n = usize::from(n);
-        let (tracks, fresh) = tracks_of(alloc, starts, n)?;
+        let (operands, fresh) = Operands::of(alloc, starts, n)?;
         let values = vec![in alloc; Id(0); n]?;
-        let ops = ops_of(alloc, &tracks)?;
-        let masks = vec![in alloc; Mask(0); tracks.len()]?;
         let counts = vec![in alloc; 0; n]?;
         Ok(Search {
             columns,
@@ -68,10 +65,8 @@ impl<O: Operand> Search<O> {
             depth: 0,
             fresh,
             told,
-            tracks,
+            operands,
             values,
-            ops,
-            masks,
             counts,
             tries: 0,
         })
@@ -113,7 +108,7 @@ impl<O: Operand> Search<O> {
         ensures less { steps_left self.new < steps_left self.old }
     {
         let chosen = choice(
-            &self.tracks,
+            &self.operands.tracks,
             &self.levels,
             self.depth,
             self.told,
@@ -127,6 +122,7 @@ impl<O: Operand> Search<O> {
             key: self.values[usize::from(label)],
             from: Some(Id(0)),
         };
+        self.operands.open(self.depth, label);
         self.tries = tries_opened(self.depth, self.told, self.tries);
         self.depth += 1;
         self.fresh = false;
@@ -146,26 +142,22 @@ impl<O: Operand> Search<O> {
         let label = self.levels[last].label;
         self.tries = tries_more(self.depth, self.told, self.tries);
         let first = first_tested(last, self.told, self.levels.len(), self.tries);
-        match next_left(
-            &mut self.tracks,
-            &self.levels,
-            last,
+        let tested = Tested {
             first,
-            self.tries,
-            &mut self.ops,
-            &mut self.masks,
-            reads,
-        ) {
+            most: self.tries,
+        };
+        match self.operands.next_left(&self.levels, last, tested, reads) {
             None => self.depth = last,
             Some(key) => {
-                self.levels[last] = Level {
+                let level = Level {
                     label,
                     key,
                     from: after(key),
                 };
+                self.levels[last] = level;
                 self.values[usize::from(label)] = key;
                 let is_last = self.depth == self.levels.len();
-                self.fresh = enter_next(&mut self.tracks, last, is_last, label, key, reads);
+                self.fresh = self.operands.enter_next(last, is_last, level, reads);
             }
         }
     }
@@ -180,8 +172,8 @@ fn choice<O: Operand, W: Ledger>(
     counts: &mut [u64],
     reads: &mut Steps<W>,
 ) -> usize
-    requires room { (i : ℕ) (t : _) → i < length tracks.now → depth < length (slice_index_or tracks.now i t).parts.items }
-    requires parts { (i : ℕ) (t : _) (p : _) → i < length tracks.now → IsPart O.depth_of O.tuples (part_at tracks.now depth i t p) }
+    requires roomy { AreRoomy depth tracks.now }
+    requires parts { AreParts O.depth_of O.tuples depth tracks.now }
     requires depth { depth < length levels.now }
     requires told { told ≤ length levels.now }
     requires few { length levels.now ≤ 96 }

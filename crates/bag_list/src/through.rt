@@ -1,116 +1,120 @@
 //! The next key of a label at which what is left may have a solution.
-ghost use Rattle.std.specs.Prelude.{◌≡◌, ◌+◌, ◌<◌, ◌≤◌, ℕ, None, IfSome, IsTrue, length, slice_index_or, Some, MatchOption};
-ghost use Rattle.hypertrie_model.specs.Slices.{at};
-ghost use Rattle.bag_list.specs.Levels.{AreBelow, from_of, lesser_of};
-ghost use Rattle.bag_list.specs.Tracks.{AllAdmitAt, HasSolutionAt, IsPart, IsSameTo, part_at};
+ghost use Rattle.std.specs.Prelude.{◌≡◌, ◌<◌, ◌≤◌, IfSome, IsTrue, length, MatchOption};
+ghost use Rattle.bag_list.specs.Levels.{lesser_of};
+ghost use Rattle.bag_list.specs.Operands.{AreReady, IsKeptTo, IsOpenAt};
+ghost use Rattle.bag_list.specs.Through.{AllAdmitNext, IsStillToTry, NoneAtBefore, NoneBefore, NoneLeftBefore};
 
 use crate::level::{Level, after};
-use crate::track::{Track, enter_all, n_keys, next_key};
+use crate::operands::Operands;
+use crate::track::n_keys;
 use std::sync::ledger::Ledger;
-use trie_depth::{Id, Mask, Operand, Steps};
+use trie_depth::{Id, Operand, Steps};
 
-/// The next key of the label of a level, or one above it where what is left has no solution before that. It is raised through
-/// each label from the level `first` on that has at most so many keys.
-pub fn next_left<O: Operand, W: Ledger>(
-    tracks: &mut [Track<O>],
-    levels: &[Level],
-    depth: usize,
-    first: usize,
-    most: u64,
-    ops: &mut [O],
-    masks: &mut [Mask],
-    reads: &mut Steps<W>,
-) -> Option<Id>
-    requires low { depth < 96 }
-    requires within { depth < length levels.now }
-    requires first { first ≤ length levels.now }
-    requires room { (i : ℕ) (t : _) → i < length tracks.old → depth + 1 < length (slice_index_or tracks.old i t).parts.items }
-    requires parts { (i : ℕ) (t : _) (p : _) → i < length tracks.old → IsPart O.depth_of O.tuples (part_at tracks.old depth i t p) }
-    requires ops { length ops.old ≡ length tracks.old }
-    requires masks { length masks.old ≡ length tracks.old }
-    ensures same { (i : ℕ) (t : _) → i < length tracks.old → IsSameTo depth (slice_index_or tracks.old i t) (slice_index_or tracks.new i t) }
-    ensures from { (f : _) → IfSome result (λ r. from_of (slice_index_or levels.now depth f).from ≤ r.0) }
-    ensures admitted { first ≡ length levels.now → (f : _) → IfSome result (λ r. AllAdmitAt O.tuples tracks.old depth (slice_index_or levels.now depth f).label r.0) }
-    ensures least { (n k : ℕ) (f : _) → AreBelow n levels.now → HasSolutionAt O.tuples n tracks.old depth (slice_index_or levels.now depth f).label k → from_of (slice_index_or levels.now depth f).from ≤ k → MatchOption result ⊥ (λ r. r.0 ≤ k) }
-{
-    let level = &levels[depth];
-    let label = level.label;
-    let from = level.from?;
-    let mut next = next_key(tracks, depth, label, from, ops, masks, reads)?;
-    for i in first..levels.len() {
-        let other = &levels[i];
-        if n_keys(tracks, depth, other.label, reads) <= most {
-            next = least_through(tracks, depth, label, other.label, next, ops, masks, reads)?;
-        }
-    }
-    Some(next)
+/// A label where so many levels are fixed, and the key from which on one of its keys is sought.
+#[derive(Clone, Copy)]
+pub struct Sought {
+    pub depth: usize,
+    pub label: u8,
+    pub from: Id,
 }
 
-/// The least key of a label from `from` on, where another label is fixed at one of its keys.
-fn least_through<O: Operand, W: Ledger>(
-    tracks: &mut [Track<O>],
-    depth: usize,
-    label: u8,
-    other: u8,
-    from: Id,
-    ops: &mut [O],
-    masks: &mut [Mask],
-    reads: &mut Steps<W>,
-) -> Option<Id>
-    requires low { depth < 96 }
-    requires room { (i : ℕ) (t : _) → i < length tracks.old → depth + 1 < length (slice_index_or tracks.old i t).parts.items }
-    requires parts { (i : ℕ) (t : _) (p : _) → i < length tracks.old → IsPart O.depth_of O.tuples (part_at tracks.old depth i t p) }
-    requires ops { length ops.old ≡ length tracks.old }
-    requires masks { length masks.old ≡ length tracks.old }
-    ensures same { (i : ℕ) (t : _) → i < length tracks.old → IsSameTo depth (slice_index_or tracks.old i t) (slice_index_or tracks.new i t) }
-    ensures from { IfSome result (λ r. from.0 ≤ r.0) }
-    ensures least { (n k : ℕ) → other < n → HasSolutionAt O.tuples n tracks.old depth label k → from.0 ≤ k → MatchOption result ⊥ (λ r. r.0 ≤ k) }
-{
-    let mut best = None;
-    let mut start = Some(Id(0));
-    while let Some(least) = start {
-        let Some(key) = next_key(tracks, depth, other, least, ops, masks, reads) else {
-            return best;
-        };
-        let level = Level {
-            label: other,
-            key,
-            from: after(key),
-        };
-        let found = least_at(tracks, depth, label, level, from, ops, masks, reads);
-        if is_reached(found, from) {
-            return found;
-        }
-        best = lesser(best, found);
-        start = level.from;
-    }
-    best
+/// The labels that a key is looked for through: those of the levels from `first` on that have at most so many keys.
+#[derive(Clone, Copy)]
+pub struct Tested {
+    pub first: usize,
+    pub most: u64,
 }
 
-/// The least key of a label from `from` on, where the label of a level is fixed at its key.
-fn least_at<O: Operand, W: Ledger>(
-    tracks: &mut [Track<O>],
-    depth: usize,
-    label: u8,
-    level: Level,
-    from: Id,
-    ops: &mut [O],
-    masks: &mut [Mask],
-    reads: &mut Steps<W>,
-) -> Option<Id>
-    requires low { depth < 96 }
-    requires room { (i : ℕ) (t : _) → i < length tracks.old → depth + 1 < length (slice_index_or tracks.old i t).parts.items }
-    requires parts { (i : ℕ) (t : _) (p : _) → i < length tracks.old → IsPart O.depth_of O.tuples (part_at tracks.old depth i t p) }
-    requires ops { length ops.old ≡ length tracks.old }
-    requires masks { length masks.old ≡ length tracks.old }
-    ensures same { (i : ℕ) (t : _) → i < length tracks.old → IsSameTo depth (slice_index_or tracks.old i t) (slice_index_or tracks.new i t) }
-    ensures from { IfSome result (λ r. from.0 ≤ r.0) }
-    ensures least { (n k : ℕ) (s : HasSolutionAt O.tuples n tracks.old depth label k) → at level.label s.solution ≡ Some level.key.0 → from.0 ≤ k → MatchOption result ⊥ (λ r. r.0 ≤ k) }
-{
-    if !enter_all(tracks, depth, level.label, level.key, reads) {
-        return None;
+impl<O: Operand> Operands<O> {
+    /// The next key of the label of a level, or one above it where what is left has no solution before that. It is raised
+    /// through each label that is tested.
+    pub fn next_left<W: Ledger>(
+        &mut self,
+        levels: &[Level],
+        depth: usize,
+        tested: Tested,
+        reads: &mut Steps<W>,
+    ) -> Option<Id>
+        requires within { (depth < length levels.now) × (tested.first ≤ length levels.now) }
+        requires ready { AreReady O.depth_of O.tuples depth self.old }
+        requires join { IsOpenAt O.depth_of O.tuples levels.now depth self.old }
+        ensures kept { IsKeptTo O.depth_of O.tuples depth self.old self.new }
+        ensures from { IsStillToTry levels.now depth result }
+        ensures admitted { tested.first ≡ length levels.now → AllAdmitNext O.tuples self.old levels.now depth result }
+        ensures least { NoneLeftBefore O.tuples self.old levels.now depth result }
+    {
+        let level = &levels[depth];
+        let label = level.label;
+        let from = level.from?;
+        let mut next = self.joins[depth].next_key(from, reads)?;
+        for i in tested.first..levels.len() {
+            let other = &levels[i];
+            if n_keys(&self.tracks, depth, other.label, reads) <= tested.most {
+                let sought = Sought {
+                    depth,
+                    label,
+                    from: next,
+                };
+                next = self.least_through(sought, other.label, reads)?;
+            }
+        }
+        Some(next)
     }
-    next_key(tracks, depth + 1, label, from, ops, masks, reads)
+
+    /// The least key, where another label is fixed at one of its keys.
+    fn least_through<W: Ledger>(
+        &mut self,
+        sought: Sought,
+        other: u8,
+        reads: &mut Steps<W>,
+    ) -> Option<Id>
+        requires { AreReady O.depth_of O.tuples sought.depth self.old }
+        ensures kept { IsKeptTo O.depth_of O.tuples sought.depth self.old self.new }
+        ensures from { IfSome result (λ r. sought.from.0 ≤ r.0) }
+        ensures least { NoneBefore O.tuples self.old other sought result }
+    {
+        self.other.gather(&self.tracks, sought.depth, other);
+        let mut best = None;
+        let mut start = Some(Id(0));
+        while let Some(least) = start {
+            let Some(key) = self.other.next_key(least, reads) else {
+                return best;
+            };
+            let level = Level {
+                label: other,
+                key,
+                from: after(key),
+            };
+            let found = self.least_at(sought, level, reads);
+            if is_reached(found, sought.from) {
+                return found;
+            }
+            best = lesser(best, found);
+            start = level.from;
+        }
+        best
+    }
+
+    /// The least key, where the label of a level is fixed at its key.
+    fn least_at<W: Ledger>(
+        &mut self,
+        sought: Sought,
+        level: Level,
+        reads: &mut Steps<W>,
+    ) -> Option<Id>
+        requires { AreReady O.depth_of O.tuples sought.depth self.old }
+        ensures kept { IsKeptTo O.depth_of O.tuples sought.depth self.old self.new }
+        ensures other { self.new.other ≡ self.old.other }
+        ensures from { IfSome result (λ r. sought.from.0 ≤ r.0) }
+        ensures least { NoneAtBefore O.tuples self.old level sought result }
+    {
+        if !self.enter(sought.depth, level, reads) {
+            return None;
+        }
+        self.behind
+            .gather(&self.tracks, sought.depth + 1, sought.label);
+        self.behind.next_key(sought.from, reads)
+    }
 }
 
 /// The lesser of two keys, where there are two.

@@ -1,15 +1,12 @@
 //! A pattern as it is while labels are fixed.
 ghost use Rattle.std.specs.Prelude.{◌≡◌, ◌+◌, ◌<◌, ◌≤◌, ℕ, List, true, false, IsTrue, IsNone, IfSome, IfOk, length, take, slice_index_or, MatchOption};
-ghost use Rattle.key_join.specs.Common.{AllFit, AllAdmit};
-ghost use Rattle.key_join.specs.Least.{IsLeastFrom};
 ghost use Rattle.bag_list.specs.declared.level.Level.{Level};
-ghost use Rattle.bag_list.specs.Tracks.{AdmitsAt, AllAdmitAt, IsFixed, IsPart, IsSameTo, IsStart, AreTracks, HasEmpty, part_at, rests, rests_of};
+ghost use Rattle.bag_list.specs.Tracks.{AdmitsAt, AllAdmitAt, AllAreStarts, AreFixed, AreParts, AreRoomy, AreSameTo, AreTracks, HasEmpty, IsFixed, IsPart, IsSameTo, rests, rests_of};
 
 use crate::labels::Labels;
-use key_join::next_common;
 use std::alloc::Global;
 use std::sync::ledger::Ledger;
-use trie_depth::{Id, Mask, Memory, Operand, Steps};
+use trie_depth::{Id, Memory, Operand, Steps};
 
 /// A pattern after its constants were fixed: the operand that is left, None where it is empty, and the labels of the
 /// operand's positions in order.
@@ -97,10 +94,10 @@ pub fn enter_all<O: Operand, W: Ledger>(
     key: Id,
     reads: &mut Steps<W>,
 ) -> bool
-    requires room { (i : ℕ) (t : _) → i < length tracks.old → depth + 1 < length (slice_index_or tracks.old i t).parts.items }
-    requires parts { (i : ℕ) (t : _) (p : _) → i < length tracks.old → IsPart O.depth_of O.tuples (part_at tracks.old depth i t p) }
-    ensures same { (i : ℕ) (t : _) → i < length tracks.old → IsSameTo depth (slice_index_or tracks.old i t) (slice_index_or tracks.new i t) }
-    ensures some { IsTrue result → (i : ℕ) (t : _) (p : _) → i < length tracks.old → IsFixed O.depth_of O.tuples label key.0 (part_at tracks.old depth i t p) (part_at tracks.new (depth + 1) i t p) }
+    requires roomy { AreRoomy (depth + 1) tracks.old }
+    requires parts { AreParts O.depth_of O.tuples depth tracks.old }
+    ensures same { AreSameTo depth tracks.old tracks.new }
+    ensures some { IsTrue result → AreFixed O.depth_of O.tuples depth label key.0 tracks.old tracks.new }
     ensures none { result ≡ false → AllAdmitAt O.tuples tracks.old depth label key.0 → ⊥ }
 {
     for i in 0..tracks.len() {
@@ -112,81 +109,6 @@ pub fn enter_all<O: Operand, W: Ledger>(
     true
 }
 
-/// The same for a key that every pattern admits. What the last label of all leaves is asked for nowhere, so nothing is fixed.
-pub fn enter_next<O: Operand, W: Ledger>(
-    tracks: &mut [Track<O>],
-    depth: usize,
-    is_last: bool,
-    label: u8,
-    key: Id,
-    reads: &mut Steps<W>,
-) -> bool
-    requires room { (i : ℕ) (t : _) → i < length tracks.old → depth + 1 < length (slice_index_or tracks.old i t).parts.items }
-    requires parts { (i : ℕ) (t : _) (p : _) → i < length tracks.old → IsPart O.depth_of O.tuples (part_at tracks.old depth i t p) }
-    ensures same { (i : ℕ) (t : _) → i < length tracks.old → IsSameTo depth (slice_index_or tracks.old i t) (slice_index_or tracks.new i t) }
-    ensures some { IsTrue result → is_last ≡ false → (i : ℕ) (t : _) (p : _) → i < length tracks.old → IsFixed O.depth_of O.tuples label key.0 (part_at tracks.old depth i t p) (part_at tracks.new (depth + 1) i t p) }
-    ensures none { result ≡ false → AllAdmitAt O.tuples tracks.old depth label key.0 → ⊥ }
-{
-    if is_last {
-        return true;
-    }
-    enter_all(tracks, depth, label, key, reads)
-}
-
-/// The operands and masks of the patterns that have a label, and how many these are.
-fn gather<O: Operand>(
-    tracks: &[Track<O>],
-    depth: usize,
-    label: u8,
-    ops: &mut [O],
-    masks: &mut [Mask],
-) -> usize
-    requires room { (i : ℕ) (t : _) → i < length tracks.now → depth < length (slice_index_or tracks.now i t).parts.items }
-    requires parts { (i : ℕ) (t : _) (p : _) → i < length tracks.now → IsPart O.depth_of O.tuples (part_at tracks.now depth i t p) }
-    requires ops { length ops.old ≡ length tracks.now }
-    requires masks { length masks.old ≡ length tracks.now }
-    ensures within { result ≤ length tracks.now }
-    ensures fit { AllFit O.depth_of (take result ops.new) (take result masks.new) }
-    ensures asked { (k : ℕ) → AllAdmitAt O.tuples tracks.now depth label k → AllAdmit O.tuples (take result ops.new) (take result masks.new) k }
-    ensures whole { (k : ℕ) → AllAdmit O.tuples (take result ops.new) (take result masks.new) k → AllAdmitAt O.tuples tracks.now depth label k }
-{
-    let mut count = 0;
-    for i in 0..tracks.len() {
-        let track = &tracks[i];
-        let part = track.parts[depth];
-        let mask = part.labels.mask(label);
-        if mask.0 > 0 {
-            ops[count] = part.op;
-            masks[count] = mask;
-            count += 1;
-        }
-    }
-    count
-}
-
-/// The least key from `from` on at which each pattern that has the label can be fixed.
-pub fn next_key<O: Operand, W: Ledger>(
-    tracks: &[Track<O>],
-    depth: usize,
-    label: u8,
-    from: Id,
-    ops: &mut [O],
-    masks: &mut [Mask],
-    reads: &mut Steps<W>,
-) -> Option<Id>
-    requires room { (i : ℕ) (t : _) → i < length tracks.now → depth < length (slice_index_or tracks.now i t).parts.items }
-    requires parts { (i : ℕ) (t : _) (p : _) → i < length tracks.now → IsPart O.depth_of O.tuples (part_at tracks.now depth i t p) }
-    requires ops { length ops.old ≡ length tracks.now }
-    requires masks { length masks.old ≡ length tracks.now }
-    ensures { IsLeastFrom from.0 (AllAdmitAt O.tuples tracks.now depth label) result }
-{
-    let count = gather(tracks, depth, label, ops, masks);
-    if count == 0 {
-        return Some(from);
-    }
-    next_common(&ops[..count], &masks[..count], from, reads)
-}
-
 /// The least number of keys that a pattern has at a label.
 pub fn n_keys<O: Operand, W: Ledger>(
     tracks: &[Track<O>],
@@ -194,8 +116,8 @@ pub fn n_keys<O: Operand, W: Ledger>(
     label: u8,
     reads: &mut Steps<W>,
 ) -> u64
-    requires room { (i : ℕ) (t : _) → i < length tracks.now → depth < length (slice_index_or tracks.now i t).parts.items }
-    requires parts { (i : ℕ) (t : _) (p : _) → i < length tracks.now → IsPart O.depth_of O.tuples (part_at tracks.now depth i t p) }
+    requires roomy { AreRoomy depth tracks.now }
+    requires parts { AreParts O.depth_of O.tuples depth tracks.now }
 {
     let mut least = u64::MAX;
     for i in 0..tracks.len() {
@@ -216,7 +138,7 @@ pub fn tracks_of<O: Operand>(
     n: usize,
 ) -> Result<(Vec<Track<O>>, bool), Memory>
     requires few { n ≤ 96 }
-    requires starts { (i : ℕ) (s : _) → i < length starts.now → IsStart O.depth_of O.tuples n (slice_index_or starts.now i s) }
+    requires starts { AllAreStarts O.depth_of O.tuples n starts.now }
     ensures tracks { IfOk result (λ r. (fs : List Level) → AreTracks O.depth_of O.tuples n 1 fs r.0.items) }
     ensures whole { IfOk result (λ r. IsTrue r.1 → rests O.tuples r.0.items ≡ rests_of O.tuples starts.now) }
     ensures empty { IfOk result (λ r. r.1 ≡ false → HasEmpty starts.now) }
@@ -231,16 +153,4 @@ pub fn tracks_of<O: Operand>(
         tracks.push(Track::of(alloc, Part { op, labels }, n)?)?;
     }
     Ok((tracks, true))
-}
-
-/// The operand of each pattern.
-pub fn ops_of<O: Operand>(alloc: Global, tracks: &[Track<O>]) -> Result<Vec<O>, Memory>
-    ensures { IfOk result (λ ops. length ops.items ≡ length tracks.now) }
-{
-    let mut ops = Vec::new(alloc);
-    for i in 0..tracks.len() {
-        let track = &tracks[i];
-        ops.push(track.start.op)?;
-    }
-    Ok(ops)
 }

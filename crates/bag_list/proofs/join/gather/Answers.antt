@@ -1,8 +1,8 @@
 use Rattle.std.proofs.Common.{◌+◌, ◌<◌, length, slice_set, sym, ◌∙◌, subst, arith}
 use Rattle.bag_list.specs.Tracks.{IsPart}
 use Rattle.bag_list.proofs.TrackLemmas.{gathered_equal, gathered_more, gathered_same, part-is}
-use Rattle.bag_list.proofs.track.gather.Goals.{then-mask-gt0, else-mask-gt0}
-use Rattle.bag_list.proofs.track.gather.Goals as goal
+use Rattle.bag_list.proofs.join.gather.Goals.{then-mask-gt0, else-mask-gt0}
+use Rattle.bag_list.proofs.join.gather.Goals as goal
 
 pub loop-i-preserved : goal.loop-i-preserved
 loop-i-preserved g c =
@@ -13,7 +13,7 @@ loop-i-preserved g c =
     let x = c.index-tracks-i.result in
     let q = c.index-part.result.now in
     let is = part-is tracks c.args.depth i x q c.loop-i-test.true c.index-tracks-i.is
-    (subst (λ z. c.args.depth < length z.parts.items) (sym c.index-tracks-i.is) (c.requires.room i x c.loop-i-test.true)) c.index-part.ensures in
+    (subst (λ z. c.args.depth < length z.parts.items) (sym c.index-tracks-i.is) (c.requires.roomy i x c.loop-i-test.true)) c.index-part.ensures in
     elim c.if-mask-gt0.branch [
       | then-mask-gt0 w ↦
           gathered_equal depth_of tuples tracks c.args.depth c.args.label (slice_set c.loop-i.ops c.loop-i.count q.op) c.if-mask-gt0.ops (slice_set c.loop-i.masks c.loop-i.count c.mask-mask.result) c.if-mask-gt0.masks (c.loop-i.count + 1) c.if-mask-gt0.count (i + 1) w.ops-is w.masks-is w.count-is

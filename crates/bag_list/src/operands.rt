@@ -1,0 +1,89 @@
+//! The patterns of a search.
+ghost use Rattle.std.specs.Prelude.{◌≡◌, ◌≤◌, ℕ, true, false, IsTrue, IfOk};
+ghost use Rattle.bag_list.specs.Operands.{AreReady, AreRoom, AreSameBut, CanEnter, IsEntered, IsKeptTo, IsOpened};
+ghost use Rattle.bag_list.specs.Tracks.{AllAreStarts, AreTracks, HasEmpty, rests, rests_of};
+
+use crate::join::{Join, joins_of};
+use crate::level::Level;
+use crate::track::{Start, Track, enter_all, tracks_of};
+use std::alloc::Global;
+use std::sync::ledger::Ledger;
+use trie_depth::{Memory, Operand, Steps};
+
+/// The patterns, and what is gathered of them.
+#[derive(Drop)]
+pub struct Operands<O: Operand> {
+    pub tracks: Vec<Track<O>>,
+    /// For each level, what has its label, once that is open.
+    pub joins: Vec<Join<O>>,
+    /// What has a label that the next key is looked for through.
+    pub other: Join<O>,
+    /// What has the label itself behind that one.
+    pub behind: Join<O>,
+}
+
+impl<O: Operand> Operands<O> {
+    /// The patterns of a search through so many labels, and whether these are all: none where one is empty.
+    pub fn of(alloc: Global, starts: &[Start<O>], n: usize) -> Result<(Operands<O>, bool), Memory>
+        requires few { n ≤ 96 }
+        requires starts { AllAreStarts O.depth_of O.tuples n starts.now }
+        ensures room { IfOk result (λ r. AreRoom n r.0) }
+        ensures tracks { IfOk result (λ r. (fs : _) → AreTracks O.depth_of O.tuples n 1 fs r.0.tracks.items) }
+        ensures whole { IfOk result (λ r. IsTrue r.1 → rests O.tuples r.0.tracks.items ≡ rests_of O.tuples starts.now) }
+        ensures empty { IfOk result (λ r. r.1 ≡ false → HasEmpty starts.now) }
+    {
+        let (tracks, fresh) = tracks_of(alloc, starts, n)?;
+        let joins = joins_of(alloc, &tracks, n)?;
+        let other = Join::of(alloc, &tracks)?;
+        let behind = Join::of(alloc, &tracks)?;
+        let operands = Operands {
+            tracks,
+            joins,
+            other,
+            behind,
+        };
+        Ok((operands, fresh))
+    }
+
+    /// Gathers what has the label of a level.
+    pub fn open(&mut self, depth: usize, label: u8)
+        requires { AreReady O.depth_of O.tuples depth self.old }
+        ensures tracks { self.new.tracks ≡ self.old.tracks }
+        ensures room { (n : ℕ) → AreRoom n self.old → AreRoom n self.new }
+        ensures join { IsOpened O.depth_of O.tuples self.old.tracks.items depth label self.new.joins.items }
+        ensures others { AreSameBut depth self.old.joins.items self.new.joins.items }
+    {
+        self.joins[depth].gather(&self.tracks, depth, label);
+    }
+
+    /// Fixes the label of a level at its key in every pattern. False where nothing is left of one.
+    pub fn enter<W: Ledger>(&mut self, depth: usize, level: Level, reads: &mut Steps<W>) -> bool
+        requires { AreReady O.depth_of O.tuples depth self.old }
+        ensures kept { IsKeptTo O.depth_of O.tuples depth self.old self.new }
+        ensures other { self.new.other ≡ self.old.other }
+        ensures some { IsTrue result → IsEntered O.depth_of O.tuples depth level self.old self.new }
+        ensures none { result ≡ false → CanEnter O.tuples depth level self.old → ⊥ }
+    {
+        enter_all(&mut self.tracks, depth, level.label, level.key, reads)
+    }
+
+    /// The same for a key that every pattern admits. What the last label of all leaves is asked for nowhere, so nothing is
+    /// fixed.
+    pub fn enter_next<W: Ledger>(
+        &mut self,
+        depth: usize,
+        is_last: bool,
+        level: Level,
+        reads: &mut Steps<W>,
+    ) -> bool
+        requires { AreReady O.depth_of O.tuples depth self.old }
+        ensures kept { IsKeptTo O.depth_of O.tuples depth self.old self.new }
+        ensures some { IsTrue result → is_last ≡ false → IsEntered O.depth_of O.tuples depth level self.old self.new }
+        ensures none { result ≡ false → CanEnter O.tuples depth level self.old → ⊥ }
+    {
+        if is_last {
+            return true;
+        }
+        self.enter(depth, level, reads)
+    }
+}

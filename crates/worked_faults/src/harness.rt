@@ -81,15 +81,24 @@ pub fn run_on<M: Mix>(
 }
 
 /// One file, `f`.
-pub fn one_file(alloc: Global, file: &[u8], reads: Calls) -> Result<MemFiles, AllocError>
-    requires { 0 < reads.piece }
-{
+pub fn named(alloc: Global, file: &[u8]) -> Result<Vec<(Text, Bytes)>, AllocError> {
     let Ok(name) = Text::of(alloc, "f") else {
         return Err(AllocError);
     };
     let mut named = Vec::new(alloc);
     named.push((name, Bytes::of(file.to_vec(alloc)?)))?;
-    Ok(MemFiles::new(named, reads.piece, [reads.failing].to_vec(alloc)?))
+    Ok(named)
+}
+
+/// The same, read by such calls.
+pub fn one_file(alloc: Global, file: &[u8], reads: Calls) -> Result<MemFiles, AllocError>
+    requires { 0 < reads.piece }
+{
+    Ok(MemFiles::new(
+        named(alloc, file)?,
+        reads.piece,
+        [reads.failing].to_vec(alloc)?,
+    ))
 }
 
 /// What a script answers over the store, where no call fails.

@@ -4,6 +4,8 @@
 #[cfg(test)]
 mod cuts;
 #[cfg(test)]
+mod dry;
+#[cfg(test)]
 mod files;
 #[cfg(test)]
 mod halves;

@@ -1,5 +1,6 @@
 //! The scripts that are tried, each with what it must answer.
 use std::alloc::{AllocError, Global};
+use tentris_core::Status;
 
 /// A command, its answer, and the dump of the graph that it leaves.
 #[derive(Clone, Copy)]
@@ -124,6 +125,14 @@ pub const LOADED: [&str; 3] = [
     "refused 4 file\nok new 5 now 5\n?n\t?m\n\"Alice\"@en\t\"Bob\"\nok rows 1\n",
     "ok new 5 now 5\nrefused 4 file\n?n\t?m\n\"Alice\"@en\t\"Bob\"\nok rows 1\n",
     "ok new 5 now 5\nok new 5 now 10\n?n\t?m\n\"Alice\"@en\t\"Bob\"\n\"Alice\"@en\t\"Bob\"\nok rows 2\n",
+];
+
+/// Words, a script over the one file, how it ends where nobody reads its answers, and how many triples it leaves.
+pub const DRY: [(&[&str], &str, Status, u64); 4] = [
+    (&[], LOADS, Status::Done, 10),
+    (&[], "LOAD f\nLOAD none.nt\n", Status::SomeRefused, 5),
+    (&["--max-triples", "0"], "LOAD f\n", Status::BadWords, 0),
+    (&["--max-bytes", "6"], "STATS\nSTATS\n", Status::TooLong, 0),
 ];
 
 /// Texts that are repeated within a script, and what the script answers.

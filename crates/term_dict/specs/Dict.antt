@@ -5,6 +5,7 @@ use Rattle.std.specs.FinMap as map
 use Rattle.std.specs.FinMap.{FinMap}
 use Rattle.std.specs.Hash.FoldHasher as folding
 use Rattle.rdf_model.specs.Terms.{Text, Term, Iri, Blank, Literal, Typed, Tagged}
+use Rattle.hash_index.specs.Short.{short_of}
 use Rattle.hash_index.specs.Slots.{slot_at, IsIndexed}
 
 abbrev pub Terms : Type 0
@@ -35,8 +36,9 @@ texts_of (Blank label) = (label, 95 ∷ [])
 texts_of (Literal form (Typed datatype)) = (form, datatype)
 texts_of (Literal form (Tagged tag)) = (form, tag)
 
+-- the hash under which a term is listed
 unfoldable pub hash_of : Term → ℕ
-hash_of term = folding.finish (folding.write (folding.write folding.initial (texts_of term).0) (texts_of term).1)
+hash_of term = short_of (folding.finish (folding.write (folding.write folding.initial (texts_of term).0) (texts_of term).1))
 
 -- the index has exactly the terms, each under its hash, no two places have one term, and the places are at most 2 ^ 31
 pub record IsDictionary (slots : List (Option Term)) (index : FinMap nat_cmp ℕ) : Type 0 where

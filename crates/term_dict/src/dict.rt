@@ -6,7 +6,7 @@ ghost use Rattle.term_dict.specs.Dict.{IsNew, IsOneToOne, HasSmallIds, Interns, 
 
 use crate::place::Place;
 use crate::places::Places;
-use hash_index::HashIndex;
+use hash_index::{HashIndex, short_hash};
 use rdf_term::{KindRef, TermRef, is_same_ref};
 use std::alloc::Global;
 use std::hash::{FoldHasher, Hasher};
@@ -120,22 +120,22 @@ impl Dict {
         }
     }
 
-    fn find_under(&self, term: TermRef<'_>, hash: u64) -> Option<Id>
+    fn find_under(&self, term: TermRef<'_>, hash: u32) -> Option<Id>
         requires { hash ≡ hash_of_term (lent_term term) }
         ensures found { IfSome result (λ id. map.get self.now id.0 ≡ Some (lent_term term.entry)) }
         ensures small { IfSome result (λ id. id.0 < 2 ^ 31) }
         ensures none { IsNone result → IsNew self.now (lent_term term.entry) }
         ensures one { IsOneToOne self.now }
     {
-        for number in self.index.numbers(hash) {
-            if self.holds(*number, term) {
-                return Some(Id(*number as u32));
+        for entry in self.index.near(hash) {
+            if entry.hash == hash && self.holds(entry.number as usize, term) {
+                return Some(Id(entry.number));
             }
         }
         None
     }
 
-    fn add(&mut self, term: TermRef<'_>, hash: u64) -> Result<Id, Memory>
+    fn add(&mut self, term: TermRef<'_>, hash: u32) -> Result<Id, Memory>
         requires hash { hash ≡ hash_of_term (lent_term term) }
         requires room { map.len self.old < 2 ^ 31 }
         requires absent { IsNew self.old (lent_term term) }
@@ -153,14 +153,14 @@ impl Dict {
     }
 }
 
-fn hash_of(term: TermRef<'_>) -> u64
+fn hash_of(term: TermRef<'_>) -> u32
     ensures { result ≡ hash_of_term (lent_term term.entry) }
 {
     let (first, second) = hashed_texts(term);
     let mut hasher = FoldHasher::default();
     hasher.write(first.as_bytes());
     hasher.write(second.as_bytes());
-    hasher.finish()
+    short_hash(hasher.finish())
 }
 
 // The texts of which a term's hash is made.

@@ -1,4 +1,5 @@
 use rdf_term::{KindRef, TermRef, XSD_STRING};
+use std::alloc::Global;
 use term_dict::Dict;
 use trie_depth::{Id, Memory};
 
@@ -75,5 +76,46 @@ fn a_refused_intern_is_made_again(rt: HostRuntime) -> Result<(), Memory> {
             assert!(rt; is_held(&dict, term), "not held: {text}");
         }
     }
+    Ok(())
+}
+
+/// Puts terms with these numbers in.
+fn put_numbers(dict: &mut Dict, alloc: Global, most: u32) -> Result<(), Memory> {
+    for number in 0..most {
+        let text = format!(in alloc; "x:{number}")?;
+        let _ = put(dict, TermRef::Iri(&text))?;
+    }
+    Ok(())
+}
+
+fn take_out_numbers(dict: &mut Dict, alloc: Global, most: u32) -> Result<(), Memory> {
+    for number in 0..most {
+        let text = format!(in alloc; "x:{number}")?;
+        take_out(dict, TermRef::Iri(&text));
+    }
+    Ok(())
+}
+
+/// Whether each of these numbers has a term, or none of them.
+fn are_held(dict: &Dict, alloc: Global, numbers: (u32, u32), wanted: bool) -> Result<bool, Memory> {
+    for number in numbers.0..numbers.1 {
+        let text = format!(in alloc; "x:{number}")?;
+        if is_held(dict, TermRef::Iri(&text)) != wanted {
+            return Ok(false);
+        }
+    }
+    Ok(true)
+}
+
+/// So many that the index parts its buckets again and again.
+#[test]
+fn a_thousand_terms(rt: HostRuntime) -> Result<(), Memory> {
+    let alloc = rt.alloc();
+    let mut dict = Dict::new(alloc);
+    put_numbers(&mut dict, alloc, 1000)?;
+    assert!(rt; are_held(&dict, alloc, (0, 1000), true)? && dict.len() == 1000);
+    take_out_numbers(&mut dict, alloc, 400)?;
+    assert!(rt; are_held(&dict, alloc, (0, 400), false)? && dict.len() == 600);
+    assert!(rt; are_held(&dict, alloc, (400, 1000), true)?);
     Ok(())
 }

@@ -1,6 +1,7 @@
 pub mod Ranges
 pub mod LevelLemmas
 pub mod Images
+pub mod PartSets
 pub mod Places
 pub mod TrackLemmas
 pub mod StartLemmas

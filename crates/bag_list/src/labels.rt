@@ -1,5 +1,5 @@
 //! The labels of a pattern's places.
-ghost use Rattle.std.specs.Prelude.{◌≡◌, ◌+◌, ◌*◌, ◌<◌, ◌≤◌};
+ghost use Rattle.std.specs.Prelude.{◌≡◌, ◌↔◌, ◌+◌, ◌*◌, ◌<◌, ◌≤◌, [], IsTrue};
 ghost use Rattle.bag_list.specs.Labels.{labels_of, mask_of, mask_with, place_without, without};
 
 use trie_depth::Mask;
@@ -17,6 +17,13 @@ impl Labels {
         let third = with_place(self.2, label, 0);
         let second = with_place(self.1, label, third);
         Mask(with_place(self.0, label, second))
+    }
+
+    /// Whether no label is left.
+    pub fn is_none(self) -> bool
+        ensures { IsTrue result ↔ (labels_of self ≡ []) }
+    {
+        self.0.is_none() && self.1.is_none() && self.2.is_none()
     }
 
     /// Without a label.

@@ -56,34 +56,33 @@ impl<O: Operand> Operands<O> {
         self.joins[depth].gather(&self.tracks, depth, label);
     }
 
-    /// Fixes the label of a level at its key in every pattern. False where nothing is left of one.
-    pub fn enter<W: Ledger>(&mut self, depth: usize, level: Level, reads: &mut Steps<W>) -> bool
-        requires { AreReady O.depth_of O.tuples depth self.old }
+    /// Fixes the label of a level in every pattern at its key, which all admit.
+    pub fn enter<W: Ledger>(&mut self, depth: usize, level: Level, reads: &mut Steps<W>)
+        requires ready { AreReady O.depth_of O.tuples depth self.old }
+        requires admitted { CanEnter O.tuples depth level self.old }
         ensures kept { IsKeptTo O.depth_of O.tuples depth self.old self.new }
         ensures other { self.new.other ≡ self.old.other }
-        ensures some { IsTrue result → IsEntered O.depth_of O.tuples depth level self.old self.new }
-        ensures none { result ≡ false → CanEnter O.tuples depth level self.old → ⊥ }
+        ensures entered { IsEntered O.depth_of O.tuples depth level self.old self.new }
     {
-        enter_all(&mut self.tracks, depth, level.label, level.key, reads)
+        enter_all(&mut self.tracks, depth, level.label, level.key, reads);
     }
 
-    /// The same for a key that every pattern admits. What the last label of all leaves is asked for nowhere, so nothing is
-    /// fixed.
+    /// The same, but for the last label of all: what that leaves is asked for nowhere.
     pub fn enter_next<W: Ledger>(
         &mut self,
         depth: usize,
         is_last: bool,
         level: Level,
         reads: &mut Steps<W>,
-    ) -> bool
-        requires { AreReady O.depth_of O.tuples depth self.old }
+    )
+        requires ready { AreReady O.depth_of O.tuples depth self.old }
+        requires admitted { CanEnter O.tuples depth level self.old }
         ensures kept { IsKeptTo O.depth_of O.tuples depth self.old self.new }
-        ensures some { IsTrue result → is_last ≡ false → IsEntered O.depth_of O.tuples depth level self.old self.new }
-        ensures none { result ≡ false → CanEnter O.tuples depth level self.old → ⊥ }
+        ensures entered { is_last ≡ false → IsEntered O.depth_of O.tuples depth level self.old self.new }
     {
         if is_last {
-            return true;
+            return;
         }
-        self.enter(depth, level, reads)
+        self.enter(depth, level, reads);
     }
 }

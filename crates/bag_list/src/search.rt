@@ -1,5 +1,5 @@
 //! The search for solutions. Labels are fixed one after another, and the last one goes on to its next key.
-ghost use Rattle.std.specs.Prelude.{◌≡◌, ◌+◌, ◌<◌, ◌≤◌, ℕ, true, false, List, [], ◌∷◌, ◌++◌, IsTrue, IfOk, IfSome, length, slice_index_or};
+ghost use Rattle.std.specs.Prelude.{◌≡◌, ◌+◌, ◌-◌, ◌<◌, ◌≤◌, ℕ, true, false, List, [], ◌∷◌, ◌++◌, IsTrue, IfOk, IfSome, length, slice_index_or};
 ghost use Rattle.std.specs.List.{AllByRecursion};
 ghost use Rattle.std.specs.List.Sorted.{IsPermutation};
 ghost use Rattle.bag_list.specs.Rows.{Row, row_here, rows_to_come};
@@ -33,7 +33,7 @@ pub struct Search<O: Operand> {
     /// The key of each label, where it is fixed.
     pub values: Vec<Id>,
     pub counts: Vec<u64>,
-    /// How many keys of the last label that tells rows apart were tried since the last row.
+    /// How many keys of the last label that tells rows apart were tried since the last row, and some of those before.
     pub tries: u64,
 }
 
@@ -91,7 +91,7 @@ impl<O: Operand> Search<O> {
             } else {
                 self.fresh = false;
                 self.depth = self.told;
-                self.tries = 0;
+                self.tries = fewer(self.tries);
                 return true;
             }
         }
@@ -157,7 +157,8 @@ impl<O: Operand> Search<O> {
                 self.levels[last] = level;
                 self.values[usize::from(label)] = key;
                 let is_last = self.depth == self.levels.len();
-                self.fresh = self.operands.enter_next(last, is_last, level, reads);
+                self.operands.enter_next(last, is_last, level, reads);
+                self.fresh = true;
             }
         }
     }
@@ -183,18 +184,49 @@ fn choice<O: Operand, W: Ledger>(
     ensures telling { depth < told → result < told }
 {
     let end = if depth < told { told } else { levels.len() };
-    if depth + 1 < end {
-        for i in depth..end {
-            counts[i] = n_keys(tracks, depth, levels[i].label, reads);
-        }
-    }
-    let first = choose(&counts[depth..end], &ALLOWED[..end - depth]);
+    let n = counted(tracks, &levels[..end], depth, counts, reads);
+    let first = choose(&counts[depth..depth + n], &ALLOWED[..n]);
     depth + first.unwrap_or(0)
 }
 
-/// How many keys were tried where a label is opened at this depth: none of one that tells rows apart.
+/// Counts the keys of the labels from a level on, one after another, up to one that has a single key: how many were counted.
+/// An only label isn't counted.
+fn counted<O: Operand, W: Ledger>(
+    tracks: &[Track<O>],
+    levels: &[Level],
+    depth: usize,
+    counts: &mut [u64],
+    reads: &mut Steps<W>,
+) -> usize
+    requires roomy { AreRoomy depth tracks.now }
+    requires parts { AreParts O.depth_of O.tuples depth tracks.now }
+    requires depth { depth < length levels.now }
+    requires counts { length levels.now ≤ length counts.old }
+    ensures within { result ≤ length levels.now - depth }
+{
+    let n = levels.len() - depth;
+    if n == 1 {
+        return 0;
+    }
+    for i in 0..n {
+        let count = n_keys(tracks, depth, levels[depth + i].label, reads);
+        counts[depth + i] = count;
+        if count <= 1 {
+            return i + 1;
+        }
+    }
+    n
+}
+
+/// How many keys count as tried where a label is opened at this depth: fewer of one that tells rows apart.
 fn tries_opened(depth: usize, told: usize, tries: u64) -> u64 {
-    if depth < told { 0 } else { tries }
+    if depth < told { fewer(tries) } else { tries }
+}
+
+/// What counts as tried once a row is found, or another label is opened. As the next rows are likely to stand as far apart,
+/// it isn't begun anew.
+fn fewer(tries: u64) -> u64 {
+    (tries - tries / 4).saturating_sub(1)
 }
 
 /// One more, where the label that goes on is the last one that tells rows apart.

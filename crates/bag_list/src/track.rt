@@ -1,7 +1,7 @@
 //! A pattern as it is while labels are fixed.
-ghost use Rattle.std.specs.Prelude.{◌≡◌, ◌+◌, ◌<◌, ◌≤◌, ℕ, List, true, false, IsTrue, IsNone, IfSome, IfOk, length, take, slice_index_or, MatchOption};
+ghost use Rattle.std.specs.Prelude.{◌≡◌, ◌+◌, ◌<◌, ◌≤◌, ℕ, List, false, IsTrue, IfOk, length, slice_index_or};
 ghost use Rattle.bag_list.specs.declared.level.Level.{Level};
-ghost use Rattle.bag_list.specs.Tracks.{AdmitsAt, AllAdmitAt, AllAreStarts, AreFixed, AreParts, AreRoomy, AreSameTo, AreTracks, HasEmpty, IsFixed, IsPart, IsSameTo, rests, rests_of};
+ghost use Rattle.bag_list.specs.Tracks.{AdmitsAt, AdmitsIn, AllAdmitAt, AllAreStarts, AreFixed, AreParts, AreRoomy, AreSameTo, AreTracks, HasEmpty, IsFixed, IsFixedIn, IsPart, IsPartIn, IsSameTo, rests, rests_of};
 
 use crate::labels::Labels;
 use std::alloc::Global;
@@ -45,68 +45,61 @@ impl<O: Operand> Track<O> {
         Ok(Track { start, parts })
     }
 
-    /// Fixes the label of a level at a key. False where nothing is left.
-    fn enter<W: Ledger>(&mut self, depth: usize, label: u8, key: Id, reads: &mut Steps<W>) -> bool
+    /// Fixes the label of a level at a key that the pattern admits.
+    fn enter<W: Ledger>(&mut self, depth: usize, label: u8, key: Id, reads: &mut Steps<W>)
         requires room { depth + 1 < length self.old.parts.items }
-        requires part { (p : _) → IsPart O.depth_of O.tuples (slice_index_or self.old.parts.items depth p) }
+        requires part { IsPartIn O.depth_of O.tuples depth self.old }
+        requires admitted { AdmitsIn O.tuples depth label self.old key.0 }
         ensures same { IsSameTo depth self.old self.new }
-        ensures some { IsTrue result → (p : _) → IsFixed O.depth_of O.tuples label key.0 (slice_index_or self.old.parts.items depth p) (slice_index_or self.new.parts.items (depth + 1) p) }
-        ensures none { result ≡ false → ((p : _) → AdmitsAt O.tuples label (slice_index_or self.old.parts.items depth p) key.0) → ⊥ }
+        ensures fixed { IsFixedIn O.depth_of O.tuples depth label key.0 self.old self.new }
     {
         let part = self.parts[depth];
-        match fixed(part, label, key, reads) {
-            Some(next) => {
-                self.parts[depth + 1] = next;
-                true
-            }
-            None => false,
-        }
+        self.parts[depth + 1] = fixed(part, label, key, reads);
     }
 }
 
-/// What is left once a label is fixed at a key, if anything is.
-fn fixed<O: Operand, W: Ledger>(
-    part: Part<O>,
-    label: u8,
-    key: Id,
-    reads: &mut Steps<W>,
-) -> Option<Part<O>>
-    requires { IsPart O.depth_of O.tuples part }
-    ensures some { IfSome result (λ r. IsFixed O.depth_of O.tuples label key.0 part r) }
-    ensures none { IsNone result → AdmitsAt O.tuples label part key.0 → ⊥ }
+/// What is left once a label is fixed at a key that the pattern admits. Where no label is left, nothing is fixed: the one
+/// tuple of no key is left.
+fn fixed<O: Operand, W: Ledger>(part: Part<O>, label: u8, key: Id, reads: &mut Steps<W>) -> Part<O>
+    requires part { IsPart O.depth_of O.tuples part }
+    requires admitted { AdmitsAt O.tuples label part key.0 }
+    ensures { IsFixed O.depth_of O.tuples label key.0 part result }
 {
     let mask = part.labels.mask(label);
     if mask.0 == 0 {
-        return Some(part);
+        return part;
     }
-    let op = part.op.fix(mask, key, reads)?;
-    Some(Part {
-        op,
-        labels: part.labels.without(label),
-    })
+    let labels = part.labels.without(label);
+    if labels.is_none() {
+        return Part {
+            op: part.op,
+            labels,
+        };
+    }
+    match part.op.fix(mask, key, reads) {
+        Some(op) => Part { op, labels },
+        None => unreachable!(),
+    }
 }
 
-/// Fixes the label of a level at a key in every pattern. False where nothing is left of one.
+/// Fixes the label of a level in every pattern at a key that all admit.
 pub fn enter_all<O: Operand, W: Ledger>(
     tracks: &mut [Track<O>],
     depth: usize,
     label: u8,
     key: Id,
     reads: &mut Steps<W>,
-) -> bool
+)
     requires roomy { AreRoomy (depth + 1) tracks.old }
     requires parts { AreParts O.depth_of O.tuples depth tracks.old }
+    requires admitted { AllAdmitAt O.tuples tracks.old depth label key.0 }
     ensures same { AreSameTo depth tracks.old tracks.new }
-    ensures some { IsTrue result → AreFixed O.depth_of O.tuples depth label key.0 tracks.old tracks.new }
-    ensures none { result ≡ false → AllAdmitAt O.tuples tracks.old depth label key.0 → ⊥ }
+    ensures fixed { AreFixed O.depth_of O.tuples depth label key.0 tracks.old tracks.new }
 {
     for i in 0..tracks.len() {
         let track = &mut tracks[i];
-        if !track.enter(depth, label, key, reads) {
-            return false;
-        }
+        track.enter(depth, label, key, reads);
     }
-    true
 }
 
 /// The least number of keys that a pattern has at a label.
@@ -126,6 +119,9 @@ pub fn n_keys<O: Operand, W: Ledger>(
         let mask = part.labels.mask(label);
         if mask.0 > 0 {
             least = least.min(part.op.key_count(mask, reads));
+        }
+        if least <= 1 {
+            return least;
         }
     }
     least

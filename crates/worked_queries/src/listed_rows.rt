@@ -70,10 +70,10 @@ fn columns_of(alloc: Global, labels: &[Option<u8>]) -> Result<Columns, Memory>
 
 /// How rows are chosen.
 #[derive(Clone, Copy)]
-struct Choice {
-    distinct: bool,
-    limit: Option<u64>,
-    offset: u64,
+pub struct Choice {
+    pub distinct: bool,
+    pub limit: Option<u64>,
+    pub offset: u64,
 }
 
 const ALL: Choice = Choice {
@@ -111,7 +111,7 @@ fn values<W: Ledger>(
     let mut lister = Lister::make(alloc, starts, query)?;
     let mut reads = Steps::<W>::new(blank);
     let mut values = Vec::new(alloc);
-    for _row in 0..20 {
+    for _row in 0..100 {
         if lister.next(&mut reads).is_none() {
             break;
         }
@@ -120,8 +120,8 @@ fn values<W: Ledger>(
     Ok(values)
 }
 
-/// The values of the first rows, row by row: at most twenty rows.
-fn listed(
+/// The values of the first rows, row by row: at most a hundred rows.
+pub fn listed(
     alloc: Global,
     list: &[Trip],
     labels: &[(u8, u8, u8)],

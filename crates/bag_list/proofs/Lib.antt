@@ -9,6 +9,7 @@ pub mod ComingLemmas
 pub mod WeightLemmas
 pub mod SearchLemmas
 pub mod MemberLemmas
+pub mod LackLemmas
 pub mod ThroughLemmas
 pub mod JoinLemmas
 pub mod GoLemmas

@@ -71,6 +71,19 @@ module _ {O : Type 0} (tuples : O → IdSet) where
   abbrev pub AllAdmitAt : List (Track O) → ℕ → ℕ → ℕ → Type 0
   AllAdmitAt tracks depth l k = (i : ℕ) (t : Track O) (p : Part O) → i < length tracks → AdmitsAt l (part_at tracks depth i t p) k
 
+  -- a label of the part has no key there
+  pub record LacksKey (p : Part O) : Type 0 where
+    pub label : ℕ
+    pub there : 1 ≤ mask_of label (labels_of p.labels)
+    pub none : (k : ℕ) → AdmitsAt label p k → ⊥
+
+  -- the same of a pattern before a label is fixed, and of some pattern
+  abbrev pub LacksKeyIn : Track O → Type 0
+  LacksKeyIn t = (p : Part O) → LacksKey (slice_index_or t.parts.items 0 p)
+
+  abbrev pub SomeLacksKey : List (Track O) → Type 0
+  SomeLacksKey tracks = (i : ℕ) × (i < length tracks) × ((t : Track O) → LacksKeyIn (slice_index_or tracks i t))
+
   -- the assignment gives each pattern, as it is after so many levels, one of its tuples
   abbrev pub AllHold : List (Track O) → ℕ → List ℕ → Type 0
   AllHold tracks depth a = (i : ℕ) (t : Track O) (p : Part O) → i < length tracks → has (part_set (part_at tracks depth i t p)) (image a (labels_of (part_at tracks depth i t p).labels)) ≡ true

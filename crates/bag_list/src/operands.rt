@@ -1,11 +1,11 @@
 //! The patterns of a search.
 ghost use Rattle.std.specs.Prelude.{◌≡◌, ◌≤◌, ℕ, true, false, IsTrue, IfOk};
 ghost use Rattle.bag_list.specs.Operands.{AreReady, AreRoom, AreSameBut, CanEnter, IsEntered, IsKeptTo, IsOpened};
-ghost use Rattle.bag_list.specs.Tracks.{AllAreStarts, AreTracks, HasEmpty, rests, rests_of};
+ghost use Rattle.bag_list.specs.Tracks.{AllAreStarts, AreTracks, HasEmpty, SomeLacksKey, rests, rests_of};
 
 use crate::join::{Join, joins_of};
 use crate::level::Level;
-use crate::track::{Start, Track, enter_all, tracks_of};
+use crate::track::{Start, Track, enter_all, lacks_key, tracks_of};
 use std::alloc::Global;
 use std::sync::ledger::Ledger;
 use trie_depth::{Memory, Operand, Steps};
@@ -43,6 +43,14 @@ impl<O: Operand> Operands<O> {
             behind,
         };
         Ok((operands, fresh))
+    }
+
+    /// Whether some pattern has a label at two places, and no key stands at both. Nothing is fixed yet.
+    pub fn lacks_key<W: Ledger>(&self, reads: &mut Steps<W>) -> bool
+        requires { AreReady O.depth_of O.tuples 0 self.now }
+        ensures { IsTrue result → SomeLacksKey O.tuples self.now.tracks.items }
+    {
+        lacks_key(&self.tracks, reads)
     }
 
     /// Gathers what has the label of a level.

@@ -97,8 +97,25 @@ impl<O: Operand> Search<O> {
         }
     }
 
-    /// Chooses the label that is fixed next.
+    /// Chooses the label that is fixed next. Before the first one, nothing is to come where a pattern lacks a key.
     fn open<W: Ledger>(&mut self, reads: &mut Steps<W>)
+        requires kept { IsKept O.depth_of O.tuples self.old }
+        requires fresh { self.old.fresh ≡ true }
+        requires deeper { self.old.depth < length self.old.levels.items }
+        ensures kept { IsKept O.depth_of O.tuples self.new }
+        ensures same { IsSameQuery O.tuples self.old self.new }
+        ensures coming { coming_of O.tuples self.new ≡ coming_of O.tuples self.old }
+        ensures less { steps_left self.new < steps_left self.old }
+    {
+        if self.depth == 0 && self.operands.lacks_key(reads) {
+            self.fresh = false;
+            return;
+        }
+        self.open_level(reads);
+    }
+
+    /// Chooses the label that is fixed next.
+    fn open_level<W: Ledger>(&mut self, reads: &mut Steps<W>)
         requires kept { IsKept O.depth_of O.tuples self.old }
         requires fresh { self.old.fresh ≡ true }
         requires deeper { self.old.depth < length self.old.levels.items }

@@ -1,12 +1,12 @@
 //! A pattern as it is while labels are fixed.
 ghost use Rattle.std.specs.Prelude.{◌≡◌, ◌+◌, ◌<◌, ◌≤◌, ℕ, List, false, IsTrue, IfOk, length, slice_index_or};
 ghost use Rattle.bag_list.specs.declared.level.Level.{Level};
-ghost use Rattle.bag_list.specs.Tracks.{AdmitsAt, AdmitsIn, AllAdmitAt, AllAreStarts, AreFixed, AreParts, AreRoomy, AreSameTo, AreTracks, HasEmpty, IsFixed, IsFixedIn, IsPart, IsPartIn, IsSameTo, rests, rests_of};
+ghost use Rattle.bag_list.specs.Tracks.{AdmitsAt, AdmitsIn, AllAdmitAt, AllAreStarts, AreFixed, AreParts, AreRoomy, AreSameTo, AreTracks, HasEmpty, IsFixed, IsFixedIn, IsPart, IsPartIn, IsSameTo, LacksKeyIn, SomeLacksKey, rests, rests_of};
 
 use crate::labels::Labels;
 use std::alloc::Global;
 use std::sync::ledger::Ledger;
-use trie_depth::{Id, Memory, Operand, Steps};
+use trie_depth::{Id, Mask, Memory, Operand, Steps};
 
 /// A pattern after its constants were fixed: the operand that is left, None where it is empty, and the labels of the
 /// operand's positions in order.
@@ -43,6 +43,22 @@ impl<O: Operand> Track<O> {
             parts.push(start)?;
         }
         Ok(Track { start, parts })
+    }
+
+    /// Whether a label that stands at two places has no key there, before a label is fixed.
+    fn lacks_key<W: Ledger>(&self, reads: &mut Steps<W>) -> bool
+        requires room { 0 < length self.now.parts.items }
+        requires part { IsPartIn O.depth_of O.tuples 0 self.now }
+        ensures { IsTrue result → LacksKeyIn O.tuples self.now }
+    {
+        let part = self.parts[0];
+        match part.labels.doubled() {
+            Some(label) => {
+                let mask = part.labels.mask(label);
+                part.op.seek(mask, Id(0), reads).is_none()
+            }
+            None => false,
+        }
     }
 
     /// Fixes the label of a level at a key that the pattern admits.
@@ -102,7 +118,32 @@ pub fn enter_all<O: Operand, W: Ledger>(
     }
 }
 
-/// The least number of keys that a pattern has at a label.
+/// Whether some pattern has a label at two places, and no key stands at both.
+pub fn lacks_key<O: Operand, W: Ledger>(tracks: &[Track<O>], reads: &mut Steps<W>) -> bool
+    requires roomy { AreRoomy 0 tracks.now }
+    requires parts { AreParts O.depth_of O.tuples 0 tracks.now }
+    ensures { IsTrue result → SomeLacksKey O.tuples tracks.now }
+{
+    for i in 0..tracks.len() {
+        let track = &tracks[i];
+        if track.lacks_key(reads) {
+            return true;
+        }
+    }
+    false
+}
+
+/// How many keys to reckon with, of those at one position of the label: a share, where the label stands at further ones, as
+/// few keys stand at all.
+fn reckoned(mask: Mask, count: u64) -> u64 {
+    if mask.0.is_power_of_two() {
+        count
+    } else {
+        count / 16
+    }
+}
+
+/// The least number of keys to reckon with that a pattern has at a label.
 pub fn n_keys<O: Operand, W: Ledger>(
     tracks: &[Track<O>],
     depth: usize,
@@ -118,7 +159,7 @@ pub fn n_keys<O: Operand, W: Ledger>(
         let part = track.parts[depth];
         let mask = part.labels.mask(label);
         if mask.0 > 0 {
-            least = least.min(part.op.key_count(mask, reads));
+            least = least.min(reckoned(mask, part.op.key_count(mask, reads)));
         }
         if least <= 1 {
             return least;

@@ -234,3 +234,31 @@ fn patterns_without_a_common_label(rt: HostRuntime) -> Result<(), Fail> {
     assert_eq!(rt; row.as_slice(), [Some(0)].as_slice());
     Ok(())
 }
+
+/// None of many rows, at once: no triple's subject is its object.
+#[test]
+fn patterns_beside_one_without_a_key(rt: HostRuntime) -> Result<(), Fail> {
+    let alloc = rt.alloc();
+    let patterns = [
+        (0, 1, 2),
+        (3, 4, 5),
+        (6, 7, 8),
+        (9, 10, 11),
+        (12, 13, 14),
+        (15, 16, 17),
+        (18, 19, 20),
+        (21, 22, 23),
+        (24, 25, 26),
+        (27, 28, 27),
+    ];
+    let none = listed(alloc, &TWO, &patterns, 29, &[Some(0)], &ALL)?;
+    assert_eq!(rt; none.len(), 0);
+    let distinct = Choice {
+        distinct: true,
+        limit: None,
+        offset: 0,
+    };
+    let none_distinct = listed(alloc, &TWO, &patterns, 29, &[Some(2), Some(5)], &distinct)?;
+    assert_eq!(rt; none_distinct.len(), 0);
+    Ok(())
+}

@@ -23,6 +23,10 @@ unfixed (f ∷ fs) ls = unfixed fs (without f.label ls)
 abbrev pub part_at : {O : Type 0} → List (Track O) → ℕ → ℕ → Track O → Part O → Part O
 part_at tracks depth i t p = slice_index_or (slice_index_or tracks i t).parts.items depth p
 
+-- each of the first n parts is p
+abbrev pub AllPartsAre : {O : Type 0} → Part O → ℕ → Track O → Type 0
+AllPartsAre p n t = (j : ℕ) (q : Part _) → j < n → slice_index_or t.parts.items j q ≡ p
+
 -- t has the same start as s, and the same parts up to this depth
 pub record IsSameTo {O : Type 0} (depth : ℕ) (s t : Track O) : Type 0 where
   pub start : t.start ≡ s.start
@@ -103,6 +107,10 @@ module _ {O : Type 0} (tuples : O → IdSet) where
 
   abbrev pub rests_of : List (Start O) → List (Rest nat_cmp)
   rests_of starts = map (λ s. record { tuples = start_set s.op; labels = array_labels s.labels }) starts
+
+  -- the patterns are those of the starts
+  abbrev pub HaveStarts : List (Start O) → List (Track O) → Type 0
+  HaveStarts starts tracks = rests tracks ≡ rests_of starts
 
 module _ {O : Type 0} (depth_of : O → ℕ) (tuples : O → IdSet) where
   -- where a label is left, the operand has a position for each; and there is some tuple

@@ -1,7 +1,7 @@
 //! The patterns of a search.
 ghost use Rattle.std.specs.Prelude.{◌≡◌, ◌≤◌, ℕ, true, false, IsTrue, IfOk};
 ghost use Rattle.bag_list.specs.Operands.{AreReady, AreRoom, AreSameBut, CanEnter, IsEntered, IsKeptTo, IsOpened};
-ghost use Rattle.bag_list.specs.Tracks.{AllAreStarts, AreTracks, HasEmpty, SomeLacksKey, rests, rests_of};
+ghost use Rattle.bag_list.specs.Tracks.{AllAreStarts, AreTracks, HasEmpty, HaveStarts, SomeLacksKey};
 
 use crate::join::{Join, joins_of};
 use crate::level::Level;
@@ -29,7 +29,7 @@ impl<O: Operand> Operands<O> {
         requires starts { AllAreStarts O.depth_of O.tuples n starts.now }
         ensures room { IfOk result (λ r. AreRoom n r.0) }
         ensures tracks { IfOk result (λ r. (fs : _) → AreTracks O.depth_of O.tuples n 1 fs r.0.tracks.items) }
-        ensures whole { IfOk result (λ r. IsTrue r.1 → rests O.tuples r.0.tracks.items ≡ rests_of O.tuples starts.now) }
+        ensures whole { IfOk result (λ r. IsTrue r.1 → HaveStarts O.tuples starts.now r.0.tracks.items) }
         ensures empty { IfOk result (λ r. r.1 ≡ false → HasEmpty starts.now) }
     {
         let (tracks, fresh) = tracks_of(alloc, starts, n)?;

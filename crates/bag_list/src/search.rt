@@ -1,8 +1,8 @@
 //! The search for solutions. Labels are fixed one after another, and the last one goes on to its next key.
-ghost use Rattle.std.specs.Prelude.{◌≡◌, ◌+◌, ◌-◌, ◌<◌, ◌≤◌, ℕ, true, false, List, [], ◌∷◌, ◌++◌, IsTrue, IfOk, IfSome, length, slice_index_or};
+ghost use Rattle.std.specs.Prelude.{◌≡◌, ◌+◌, ◌-◌, ◌<◌, ◌≤◌, ℕ, true, false, IsTrue, IfOk, IfSome, length};
 ghost use Rattle.std.specs.List.{AllByRecursion};
 ghost use Rattle.std.specs.List.Sorted.{IsPermutation};
-ghost use Rattle.bag_list.specs.Rows.{Row, row_here, rows_to_come};
+ghost use Rattle.bag_list.specs.Rows.{EndsBefore, GivesRow, HasEnded, LeavesOut};
 ghost use Rattle.bag_list.specs.Search.{IsKept, IsSameQuery, coming_of, id_solutions, steps_left};
 ghost use Rattle.bag_list.specs.Tracks.{AllAreStarts, AreParts, AreRoomy, rests_of};
 
@@ -77,8 +77,8 @@ impl<O: Operand> Search<O> {
         requires { IsKept O.depth_of O.tuples self.old }
         ensures kept { IsKept O.depth_of O.tuples self.new }
         ensures same { IsSameQuery O.tuples self.old self.new }
-        ensures none { result ≡ false → (rows_to_come O.tuples self.old ≡ []) × (rows_to_come O.tuples self.new ≡ []) }
-        ensures some { IsTrue result → IsPermutation (rows_to_come O.tuples self.old) (row_here self.new ∷ rows_to_come O.tuples self.new) }
+        ensures none { result ≡ false → HasEnded O.tuples self.old self.new }
+        ensures some { IsTrue result → GivesRow O.tuples self.old self.new }
     {
         loop {
             if !self.fresh {
@@ -280,8 +280,8 @@ pub fn leave_out<O: Operand, W: Ledger>(
     requires { IsKept O.depth_of O.tuples search.old }
     ensures kept { IsKept O.depth_of O.tuples search.new }
     ensures same { IsSameQuery O.tuples search.old search.new }
-    ensures none { result ≡ false → (length (rows_to_come O.tuples search.old) < n) × (rows_to_come O.tuples search.new ≡ []) }
-    ensures some { IsTrue result → (left : List Row) × (length left ≡ n) × IsPermutation (rows_to_come O.tuples search.old) (left ++ rows_to_come O.tuples search.new) }
+    ensures none { result ≡ false → EndsBefore O.tuples n search.old search.new }
+    ensures some { IsTrue result → LeavesOut O.tuples n search.old search.new }
 {
     for _row in 0..n {
         if !search.next_row(reads) {

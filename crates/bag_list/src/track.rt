@@ -1,7 +1,7 @@
 //! A pattern as it is while labels are fixed.
 ghost use Rattle.std.specs.Prelude.{◌≡◌, ◌+◌, ◌<◌, ◌≤◌, ℕ, List, false, IsTrue, IfOk, length, slice_index_or};
 ghost use Rattle.bag_list.specs.declared.level.Level.{Level};
-ghost use Rattle.bag_list.specs.Tracks.{AdmitsAt, AdmitsIn, AllAdmitAt, AllAreStarts, AreFixed, AreParts, AreRoomy, AreSameTo, AreTracks, HasEmpty, IsFixed, IsFixedIn, IsPart, IsPartIn, IsSameTo, LacksKeyIn, SomeLacksKey, rests, rests_of};
+ghost use Rattle.bag_list.specs.Tracks.{AdmitsAt, AdmitsIn, AllAdmitAt, AllAreStarts, AllPartsAre, AreFixed, AreParts, AreRoomy, AreSameTo, AreTracks, HasEmpty, HaveStarts, IsFixed, IsFixedIn, IsPart, IsPartIn, IsSameTo, LacksKeyIn, SomeLacksKey};
 
 use crate::labels::Labels;
 use std::alloc::Global;
@@ -36,7 +36,7 @@ impl<O: Operand> Track<O> {
         requires { n ≤ 96 }
         ensures start { IfOk result (λ t. t.start ≡ start) }
         ensures room { IfOk result (λ t. length t.parts.items ≡ n + 1) }
-        ensures parts { IfOk result (λ t. (j : ℕ) (p : _) → j < n + 1 → slice_index_or t.parts.items j p ≡ start) }
+        ensures parts { IfOk result (λ t. AllPartsAre start (n + 1) t) }
     {
         let mut parts = Vec::new(alloc);
         for _level in 0..n + 1 {
@@ -177,7 +177,7 @@ pub fn tracks_of<O: Operand>(
     requires few { n ≤ 96 }
     requires starts { AllAreStarts O.depth_of O.tuples n starts.now }
     ensures tracks { IfOk result (λ r. (fs : List Level) → AreTracks O.depth_of O.tuples n 1 fs r.0.items) }
-    ensures whole { IfOk result (λ r. IsTrue r.1 → rests O.tuples r.0.items ≡ rests_of O.tuples starts.now) }
+    ensures whole { IfOk result (λ r. IsTrue r.1 → HaveStarts O.tuples starts.now r.0.items) }
     ensures empty { IfOk result (λ r. r.1 ≡ false → HasEmpty starts.now) }
 {
     let mut tracks = Vec::new(alloc);

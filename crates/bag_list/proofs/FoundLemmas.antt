@@ -1,39 +1,35 @@
 -- A solution is found: what goes with it, and what is left.
 use Rattle.std.specs.Prelude.{◌≡◌, ℕ, zero, suc, ◌+◌, ◌<◌, ◌≤◌, ◌^◌, ◌&&◌, ◌||◌, Bool, true, false, not, nat_lt, nat_eq, List, [], ◌∷◌, ◌++◌, length, take, drop, slice_index_or, refl, None, Some}
 use Rattle.std.proofs.Common.{sym, ◌∙◌, ap, subst, arith}
-use Rattle.std.proofs.lemmas.Bool.{false_from_ne_true}
 use Rattle.std.proofs.lemmas.Bool.Decides.{nat_tests}
 use Rattle.std.proofs.Math.Seq.{take-length}
 use Rattle.std.proofs.lemmas.Cmp.{nat_cmp_total, lists_total}
 use Rattle.std.proofs.lemmas.List.{get_or-take, take-append-drop, take_more, length-take-le, drop_all}
 use Rattle.std.proofs.lemmas.List.Sorted.{IsPermutation-cons, IsPermutation-trans, IsPermutation-append_comm, IsPermutation-append_left, length_permutation, list_any-IsPermutation}
 use Rattle.std.specs.Cmp.{unsigned_tied}
-use Rattle.std.specs.Cmp.Lexicographic.{slice_cmp}
 use Rattle.std.specs.FinMap.{nat_cmp-IsAntisymmetric}
-use Rattle.std.specs.FinSet as set
 use Rattle.std.specs.FinSet.{slice_cmp-IsAntisymmetric}
 use Rattle.std.specs.List.{AllByRecursion, IsDistinct, list_any, range_with_len}
 use Rattle.std.specs.List.Sorted.{IsPermutation}
 use Rattle.std.specs.Ordering.{nat_cmp, eq_by_cmp}
 use native.Mathlib.Decide.{dec_lt}
 use Rattle.hypertrie_model.specs.IdSets.{IdSet}
-use Rattle.hypertrie_model.specs.Sets.{has, empty, HasDepth}
-use Rattle.hypertrie_model.specs.SetLaws.{and_both, or_cases, or_right, same_test, same_sets, tied-is, tied-itself}
-use Rattle.hypertrie_model.specs.SliceLaws.{has-slice_at_mask}
-use Rattle.hypertrie_model.specs.Slices.{at, is_at, slice_at_mask}
-use Rattle.trie_depth.specs.Operands.{Admits}
+use Rattle.hypertrie_model.specs.Sets.{has, HasDepth}
+use Rattle.hypertrie_model.specs.SetLaws.{and_both, or_cases, or_right, same_test, tied-is, tied-itself}
+use Rattle.hypertrie_model.specs.Slices.{at, is_at}
 use Rattle.trie_depth.specs.declared.id.Id.{Id}
 use Rattle.bag_model.specs.ListLaws.{any-filter, distinct-filter, same_members}
 use Rattle.bag_model.specs.Solutions.{image, is_solution}
 use Rattle.bag_model.specs.SolutionLaws.{any-solutions, distinct-solutions, exact_assignments, is_assignment, same_assignment, same_element}
 use Rattle.bag_list.specs.declared.level.Level.{Level}
 use Rattle.bag_list.specs.declared.track.Track.{Track}
-use Rattle.bag_list.specs.Labels.{labels_of, mask_of, without}
+use Rattle.bag_list.specs.Labels.{labels_of, without}
 use Rattle.bag_list.specs.Levels.{agrees, at_key, coming, from_of, is_below, level_labels, to_come, within}
 use Rattle.bag_list.specs.Search.{AreKept, id_solutions, ids_below, numbers}
-use Rattle.bag_list.specs.Tracks.{rests, unfixed}
+use Rattle.bag_list.specs.Tracks.{part_set, rests, set_with, unfixed}
 use Rattle.bag_list.proofs.ComingLemmas.{coming-all, coming-append}
-use Rattle.bag_list.proofs.Images.{at-is_at, has-slice, is_at-at, length-without, mask-none}
+use Rattle.bag_list.proofs.Images.{at-is_at, is_at-at}
+use Rattle.bag_list.proofs.PartSets.{admits-part, has-one, last-has}
 use Rattle.bag_list.proofs.MemberLemmas.{IsMember, all-left, all-members, any-unfixed, below-at}
 use Rattle.bag_list.proofs.Places.{append_none, permutation-equal}
 use Rattle.bag_list.proofs.SearchLemmas.{agrees-more, exact_numbers, labels-small, unfixed-more}
@@ -156,36 +152,6 @@ distinct-within : (T : List (List ℕ)) (fs : List Level) → IsDistinct (same_a
 distinct-within T [] d = d
 distinct-within T (f ∷ fs) d = distinct-within (at_key f.label f.key.0 T) fs (distinct-filter (exact_assignments nat_cmp_total nat_cmp-IsAntisymmetric) (is_at nat_cmp f.label f.key.0) T d)
 
--- a set of tuples without places that isn't empty has the one without places
-has-nil : (H : IdSet) → HasDepth 0 H → (H ≡ empty nat_cmp → ⊥) → has H [] ≡ true
-has-nil H deep some = elim (has H []) as (λ b. has H [] ≡ b → b ≡ true) [
-  | true ↦ λ _. refl
-  | false ↦ λ out. absurd (some (same_sets nat_cmp_total nat_cmp-IsAntisymmetric H (empty nat_cmp) (λ t.
-      false_from_ne_true _ (λ e.
-      let is : t ≡ [] = nil t (deep t e) in
-      let f : false ≡ true = sym out ∙ ap (has H) (sym is) ∙ e in cc)
-      ∙ sym (set.contains-empty (slice_cmp nat_cmp) t))))
-] refl where
-  nil : (t : List ℕ) → length t ≡ 0 → t ≡ []
-  nil [] e = refl
-  nil (x ∷ t) e = absurd (omega (arith, e))
-
--- what is left at the key of the last label
-slice-deep : (l k : ℕ) (H : IdSet) (ls : List ℕ) → HasDepth (length ls) H → HasDepth (length (without l ls)) (slice_at_mask nat_cmp H (mask_of l ls) k)
-slice-deep l k H ls deep t e =
-    let s = has-slice_at_mask nat_cmp_total nat_cmp-IsAntisymmetric H (mask_of l ls) k t e in
-    ap length (sym s.left) ∙ length-without l ls s.tuple (deep s.tuple s.there)
-
-last-has : (l k : ℕ) (a : List ℕ) → at l a ≡ Some k → (H : IdSet) (ls : List ℕ) → HasDepth (length ls) H → (H ≡ empty nat_cmp → ⊥) → without l ls ≡ [] → (1 ≤ mask_of l ls → Admits H (mask_of l ls) k) → has H (image a ls) ≡ true
-last-has l k a here H ls deep some none admits = elim (dec_lt 0 (mask_of l ls)) as (λ _. has H (image a ls) ≡ true) [
-  | yes lt ↦
-      sym (has-slice l k a here H ls deep) ∙ ap (λ ks. has (slice_at_mask nat_cmp H (mask_of l ls) k) (image a ks)) none
-      ∙ has-nil (slice_at_mask nat_cmp H (mask_of l ls) k) (subst (λ d. HasDepth d (slice_at_mask nat_cmp H (mask_of l ls) k)) (ap length none) (slice-deep l k H ls deep)) (admits (omega (arith, lt)))
-  | no ge ↦
-      let all : ls ≡ [] = sym (mask-none l ls (omega (arith, ge))) ∙ none in
-      ap (λ ks. has H (image a ks)) all ∙ has-nil H (subst (λ d. HasDepth d H) (ap length all) deep) some
-]
-
 solution-places : {O : Type 0} (tuples : O → IdSet) (tracks : List (Track O)) (a : List ℕ) → ((i : ℕ) (t : Track O) → i < length tracks → has (tuples (slice_index_or tracks i t).start.op) (image a (labels_of (slice_index_or tracks i t).start.labels)) ≡ true) → is_solution nat_cmp (rests tuples tracks) a ≡ true
 solution-places tuples [] a each = refl
 solution-places tuples (s ∷ tracks) a each = (λ j. each 0 s (omega arith) j && solution-places tuples tracks a (λ i t lt. each (suc i) t (omega (arith, lt))) j)
@@ -253,8 +219,8 @@ module _ {O : Type 0} (depth_of : O → ℕ) (tuples : O → IdSet) (deep : (o :
         let y = slice_index_or x.parts.items 0 p in
         let labels : labels_of y.labels ≡ [] = left.labels ∙ ap (λ fs. unfixed fs (labels_of p.labels)) (sym (no-levels levels none)) ∙ none-unfixed x track.below in
         sym (left.image (numbers values) refl)
-        ∙ ap (λ ls. has (tuples y.op) (image (numbers values) ls)) labels
-        ∙ has-nil (tuples y.op) (subst (λ d. HasDepth d (tuples y.op)) (left.part.deep ∙ ap length labels) (deep y.op)) left.part.some where
+        ∙ ap (λ ls. has (set_with ls (tuples y.op)) (image (numbers values) ls)) labels
+        ∙ has-one where
           no-levels : (fs : List Level) → length fs ≡ 0 → fs ≡ []
           no-levels [] e = refl
           no-levels (f ∷ fs) e = absurd (omega (arith, e))
@@ -275,8 +241,8 @@ module _ {O : Type 0} (depth_of : O → ℕ) (tuples : O → IdSet) (deep : (o :
         let agree : (agrees (take last levels) (numbers values) && is_at nat_cmp f.label f.key.0 (numbers values)) ≡ true = sym (agrees-more (take last levels) f (numbers values)) ∙ ap (λ fs. agrees fs (numbers values)) (sym levels_are) ∙ values-agree in
         let two = and_both (agrees (take last levels) (numbers values)) (is_at nat_cmp f.label f.key.0 (numbers values)) agree in
         sym (left.image (numbers values) two.0)
-        ∙ last-has f.label f.key.0 (numbers values) (at-is_at f.label f.key.0 (numbers values) two.1) (tuples y.op) (labels_of y.labels) (part-deep depth_of tuples deep y left.part) left.part.some labels
-        (kept.admitted refl last d (omega (arith, n)) (omega (arith, n)) i t p lt)
+        ∙ last-has f.label f.key.0 (numbers values) (at-is_at f.label f.key.0 (numbers values) two.1) (part_set tuples y) (labels_of y.labels) (part-deep depth_of tuples deep y left.part) left.part.some labels
+        (admits-part tuples f.label f.key.0 y (kept.admitted refl last d (omega (arith, n)) (omega (arith, n)) i t p lt))
 
     by : (n : ℕ) → length levels ≡ n → (i : ℕ) (t : Track O) → i < length tracks → has (tuples (slice_index_or tracks i t).start.op) (image (numbers values) (labels_of (slice_index_or tracks i t).start.labels)) ≡ true
     by zero e i t lt = at_once e i t lt

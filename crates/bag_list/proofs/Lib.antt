@@ -1,6 +1,7 @@
 pub mod Ranges
 pub mod LevelLemmas
 pub mod Images
+pub mod PartSets
 pub mod Places
 pub mod TrackLemmas
 pub mod StartLemmas
@@ -8,6 +9,7 @@ pub mod ComingLemmas
 pub mod WeightLemmas
 pub mod SearchLemmas
 pub mod MemberLemmas
+pub mod LackLemmas
 pub mod ThroughLemmas
 pub mod JoinLemmas
 pub mod GoLemmas

@@ -14,9 +14,10 @@ use Rattle.bag_list.specs.declared.track.Track.{Track}
 use Rattle.bag_list.specs.Labels.{labels_of, without}
 use Rattle.bag_list.specs.Levels.{agrees, is_below, level_labels, within}
 use Rattle.bag_list.specs.Search.{id_solutions, ids_below}
-use Rattle.bag_list.specs.Tracks.{AllAdmitAt, AreTracks, HasSolutionAt, part_at, rests, unfixed}
+use Rattle.bag_list.specs.Tracks.{AllAdmitAt, AreTracks, HasSolutionAt, part_at, part_set, rests, unfixed}
 use Rattle.bag_list.proofs.ComingLemmas.{all-append, all-filtered, all-weaker, within-all}
 use Rattle.bag_list.proofs.Images.{image-admits}
+use Rattle.bag_list.proofs.PartSets.{part-admits}
 use Rattle.bag_list.proofs.SearchLemmas.{exact_numbers}
 use Rattle.bag_list.proofs.TrackLemmas.{part-deep}
 
@@ -94,8 +95,8 @@ module _ {O : Type 0} (depth_of : O → ℕ) (tuples : O → IdSet) (deep : (o :
   solution-admits a l q solution agreed at_l i t p lt some =
       let left = (are i t lt).left last p low before in
       let x = part_at tracks last i t p in
-      image-admits l q a at_l (tuples x.op) (labels_of x.labels) (part-deep depth_of tuples deep x left.part)
-      (left.image a agreed ∙ solution-at tuples tracks a i t solution lt)
+      part-admits tuples l q x (image-admits l q a at_l (part_set tuples x) (labels_of x.labels) (part-deep depth_of tuples deep x left.part)
+      (left.image a agreed ∙ solution-at tuples tracks a i t solution lt)) some
 
   -- it is a solution of what is left
   pub solution-left : (a : List ℕ) (l q : ℕ) → IsMember n (rests tuples tracks) a → agrees (take last levels) a ≡ true → at l a ≡ Some q → HasSolutionAt tuples n tracks last l q

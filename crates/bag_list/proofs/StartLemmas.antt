@@ -5,7 +5,7 @@ use Rattle.std.proofs.lemmas.List.{map-append, take_more}
 use Rattle.std.specs.List.{AllByRecursion}
 use Rattle.std.specs.Ordering.{nat_cmp}
 use Rattle.hypertrie_model.specs.IdSets.{IdSet}
-use Rattle.hypertrie_model.specs.Sets.{empty}
+use Rattle.hypertrie_model.specs.Sets.{empty, HasDepth}
 use Rattle.bag_list.specs.declared.labels.Labels.{Labels}
 use Rattle.bag_list.specs.declared.level.Level.{Level}
 use Rattle.bag_list.specs.declared.track.Part.{Part}
@@ -13,24 +13,30 @@ use Rattle.bag_list.specs.declared.track.Start.{Start}
 use Rattle.bag_list.specs.declared.track.Track.{Track}
 use Rattle.bag_list.specs.Labels.{array_labels, labels_of}
 use Rattle.bag_list.specs.Tracks.{IsLeft, IsPart, IsStart, IsTrack, rest_of, rests, rests_of, start_set}
+use Rattle.bag_list.proofs.PartSets.{set-some, set-whole}
 
-module _ {O : Type 0} (depth_of : O → ℕ) (tuples : O → IdSet) (n : ℕ) (s : Start O) (o : O) (ls : Labels) (is : s.op ≡ Some o) (labels : labels_of ls ≡ array_labels s.labels) (start : IsStart depth_of tuples n s) where
+module _ {O : Type 0} (depth_of : O → ℕ) (tuples : O → IdSet) (n : ℕ) (s : Start O) (o : O) (ls : Labels) (is : s.op ≡ Some o) (labels : labels_of ls ≡ array_labels s.labels) (start : IsStart depth_of tuples n s) (all-deep : (o : O) → HasDepth (depth_of o) (tuples o)) where
   p : Part O
   p = record { op = o; labels = ls }
 
-  start-part : IsPart depth_of tuples p
-  unfolding p
-  start-part = record {
-    deep = here s.op is start.deep ∙ ap length (sym labels);
-    some = some s.op is start.some;
-  } where
+  start-deep : depth_of o ≡ length (labels_of ls)
+  start-deep = here s.op is start.deep ∙ ap length (sym labels) where
     here : (v : Option O) → v ≡ Some o → IfSome v (λ o. depth_of o ≡ length (array_labels s.labels)) → depth_of o ≡ length (array_labels s.labels)
     here None e h = absurd (let f : ⊥ = cc in f)
     here (Some x) e h = let same : x ≡ o = cc in ap depth_of (sym same) ∙ h
 
+  start-some : tuples o ≢ empty nat_cmp
+  start-some = some s.op is start.some where
     some : (v : Option O) → v ≡ Some o → IfSome v (λ o. tuples o ≢ empty nat_cmp) → tuples o ≢ empty nat_cmp
     some None e h = absurd (let f : ⊥ = cc in f)
     some (Some x) e h = let same : x ≡ o = cc in subst (λ y. tuples y ≢ empty nat_cmp) same h
+
+  start-part : IsPart depth_of tuples p
+  unfolding p
+  start-part = record {
+    deep = λ _. start-deep;
+    some = set-some (labels_of ls) (tuples o) start-some;
+  }
 
   pub start-track : (t : Track O) → t.start ≡ record { op = o; labels = ls } → length t.parts.items ≡ n + 1 → ((j : ℕ) (q : Part O) → j < n + 1 → slice_index_or t.parts.items j q ≡ record { op = o; labels = ls }) → (fs : List Level) → IsTrack depth_of tuples n 1 fs t
   unfolding p start-part
@@ -41,7 +47,7 @@ module _ {O : Type 0} (depth_of : O → ℕ) (tuples : O → IdSet) (n : ℕ) (s
         subst (λ j. IsLeft depth_of tuples (take j fs) t.start (slice_index_or t.parts.items j q)) first
         (subst (λ x. IsLeft depth_of tuples [] t.start x) (sym (parts 0 q (omega arith)))
         (subst (λ x. IsLeft depth_of tuples [] x (record { op = o; labels = ls })) (sym at_start)
-        (record { part = start-part; labels = refl; image = λ a _. refl })));
+        (record { part = start-part; labels = refl; image = λ a _. set-whole a (labels_of ls) (tuples o) (subst (λ d. HasDepth d (tuples o)) start-deep (all-deep o)) start-some })));
   }
 
   rest-same : (t : Track O) → t.start ≡ record { op = o; labels = ls } → rest_of tuples t.start ≡ record { tuples = start_set tuples s.op; labels = array_labels s.labels }

@@ -1,6 +1,6 @@
 -- The keys that solutions of what is left have at labels.
 use Rattle.std.specs.Prelude.{◌≡◌, ℕ, ◌+◌, ◌^◌, ◌<◌, ◌≤◌, true, false, List, [], ◌∷◌, length, zero, suc, slice_index_or, refl, Option, None, Some, IfSome, MatchOption, nat_lt, cond}
-use Rattle.std.proofs.Common.{sym, ◌∙◌, ap, subst, arith}
+use Rattle.std.proofs.Common.{sym, ◌∙◌, subst, arith}
 use Rattle.std.proofs.lemmas.Bool.Decides.{nat_tests}
 use Rattle.std.proofs.lemmas.List.{get_or_default}
 use Rattle.std.specs.List.{AllByRecursion}
@@ -16,10 +16,11 @@ use Rattle.bag_list.specs.declared.operands.Operands.{Operands}
 use Rattle.bag_list.specs.declared.track.Part.{Part}
 use Rattle.bag_list.specs.declared.track.Track.{Track}
 use Rattle.bag_list.specs.Labels.{labels_of}
-use Rattle.bag_list.specs.Levels.{AreBelow, from_of, lesser_of}
+use Rattle.bag_list.specs.Levels.{AreBelow, lesser_of}
 use Rattle.bag_list.specs.Operands.{IsKeptTo}
-use Rattle.bag_list.specs.Tracks.{AllAdmitAt, AllHold, AreParts, AreSameTo, HasSolutionAt, IsFixed, IsPart, IsSameTo, part_at}
+use Rattle.bag_list.specs.Tracks.{AllAdmitAt, AllHold, AreParts, AreSameTo, HasSolutionAt, IsFixed, IsPart, IsSameTo, part_at, part_set}
 use Rattle.bag_list.proofs.Images.{image-admits, is_at-at}
+use Rattle.bag_list.proofs.PartSets.{part-admits}
 use Rattle.bag_list.proofs.MemberLemmas.{at-there}
 use Rattle.bag_list.proofs.TrackLemmas.{part-deep}
 
@@ -31,12 +32,6 @@ pub at-small : (l k n : ℕ) (a : List ℕ) → AllByRecursion (λ x. x < n) a �
 at-small l k n [] all e = absurd (let f : ⊥ = cc in f)
 at-small zero k n (x ∷ a) all e = let is : x ≡ k = cc in subst (λ y. y < n) is all.0
 at-small (suc l) k n (x ∷ a) all e = at-small l k n a all.1 e
-
-pub none-before : (first n last : ℕ) → first ≤ n → (first < n → last + 1 < n) → n ≡ last + 1 → first ≡ n
-none-before first n last le before end = elim (dec_lt first n) as (λ _. first ≡ n) [
-  | yes lt ↦ absurd (let more = before lt in omega (arith, more, end))
-  | no ge ↦ omega (arith, le, ge)
-]
 
 -- ---- the lesser of two keys
 
@@ -68,7 +63,7 @@ module _ {O : Type 0} (depth_of : O → ℕ) (tuples : O → IdSet) (deep : (o :
   pub holding-admits : (tracks : List (Track O)) (depth : ℕ) (a : List ℕ) (l q : ℕ) → ((i : ℕ) (t : Track O) (p : Part O) → i < length tracks → IsPart depth_of tuples (part_at tracks depth i t p)) → AllHold tuples tracks depth a → at l a ≡ Some q → AllAdmitAt tuples tracks depth l q
   holding-admits tracks depth a l q parts holds at_l i t p lt some =
       let x = part_at tracks depth i t p in
-      image-admits l q a at_l (tuples x.op) (labels_of x.labels) (part-deep depth_of tuples deep x (parts i t p lt)) (holds i t p lt)
+      part-admits tuples l q x (image-admits l q a at_l (part_set tuples x) (labels_of x.labels) (part-deep depth_of tuples deep x (parts i t p lt)) (holds i t p lt)) some
 
   -- the same once a label is fixed at the key that it has
   pub holding-fixed : (old now : List (Track O)) (depth l k : ℕ) (a : List ℕ) → length now ≡ length old → ((i : ℕ) (t : Track O) (p : Part O) → i < length old → IsFixed depth_of tuples l k (part_at old depth i t p) (part_at now (depth + 1) i t p)) → at l a ≡ Some k → AllHold tuples old depth a → AllHold tuples now (depth + 1) a
@@ -97,7 +92,7 @@ module _ {O : Type 0} (old now : List (Track O)) (depth : ℕ) (n_now : length n
     long = s.long;
     ids = s.ids;
     key = s.key;
-    holds = parts-same (λ p. has (tuples p.op) (image s.solution (labels_of p.labels)) ≡ true) s.holds;
+    holds = parts-same (λ p. has (part_set tuples p) (image s.solution (labels_of p.labels)) ≡ true) s.holds;
   }
 
 pub same-twice : {O : Type 0} (depth : ℕ) (x y z : Track O) → IsSameTo depth x y → IsSameTo depth y z → IsSameTo depth x z
@@ -181,49 +176,36 @@ through-all tuples old now depth l m from start best all end n k lt s le =
 
 -- ---- one label after another
 
--- no solution has at the label of the level a key that is still to be tried and is below `next`
-pub record IsRaised {O : Type 0} (tuples : O → IdSet) (levels : List Level) (old now : List (Track O)) (depth first next : ℕ) : Type 0 where
+-- no solution has at the label of the level a key from k on that is below `next`
+pub record IsRaised {O : Type 0} (tuples : O → IdSet) (levels : List Level) (old now : List (Track O)) (depth k next : ℕ) : Type 0 where
   pub same : AreSameTo depth old now
-  pub above : (f : Level) → from_of (slice_index_or levels depth f).from ≤ next
-  pub least : (n k : ℕ) (f : Level) → AreBelow n levels → HasSolutionAt tuples n old depth (slice_index_or levels depth f).label k → from_of (slice_index_or levels depth f).from ≤ k → next ≤ k
-  pub admitted : first ≡ length levels → (f : Level) → AllAdmitAt tuples old depth (slice_index_or levels depth f).label next
+  pub above : k ≤ next
+  pub least : (n q : ℕ) (f : Level) → AreBelow n levels → HasSolutionAt tuples n old depth (slice_index_or levels depth f).label q → k ≤ q → next ≤ q
 
 -- which default is asked for makes no difference
 pub level-at : (levels : List Level) (depth : ℕ) (f : Level) → f ≡ slice_index_or levels depth f → depth < length levels → (g : Level) → f ≡ slice_index_or levels depth g
 level-at levels depth f is within g = is ∙ get_or_default levels depth f g within
 
-module _ {O : Type 0} (depth_of : O → ℕ) (tuples : O → IdSet) (deep : (o : O) → HasDepth (depth_of o) (tuples o)) (levels : List Level) (tracks : List (Track O)) (depth first : ℕ) (parts : AreParts depth_of tuples depth tracks) (f : Level) (is : f ≡ slice_index_or levels depth f) (within : depth < length levels) (from : ℕ) (at_from : from_of f.from ≡ from) (found : Option Id) (least : IsLeastFrom from (AllAdmitAt tuples tracks depth f.label) found) where
-  level-is : (g : Level) → f ≡ slice_index_or levels depth g
-  level-is g = level-at levels depth f is within g
-
+module _ {O : Type 0} (depth_of : O → ℕ) (tuples : O → IdSet) (deep : (o : O) → HasDepth (depth_of o) (tuples o)) (levels : List Level) (tracks : List (Track O)) (depth : ℕ) (parts : AreParts depth_of tuples depth tracks) (f : Level) (is : f ≡ slice_index_or levels depth f) (within : depth < length levels) (from : ℕ) (found : Option Id) (least : IsLeastFrom from (AllAdmitAt tuples tracks depth f.label) found) where
   -- the next key of the label's own patterns
-  pub next-reached : (n k : ℕ) (g : Level) → HasSolutionAt tuples n tracks depth (slice_index_or levels depth g).label k → from_of (slice_index_or levels depth g).from ≤ k → IsReached found k
+  pub next-reached : (n k : ℕ) (g : Level) → HasSolutionAt tuples n tracks depth (slice_index_or levels depth g).label k → from ≤ k → IsReached found k
   next-reached n k g s le =
-      let here = subst (λ h. HasSolutionAt tuples n tracks depth h.label k) (sym (level-is g)) s in
-      let low = ap (λ h. from_of h.from) (level-is g) in
-      least.least k (omega (arith, low, at_from, le)) (holding-admits depth_of tuples deep tracks depth here.solution f.label k parts here.holds here.key)
+      let here = subst (λ h. HasSolutionAt tuples n tracks depth h.label k) (sym (level-at levels depth f is within g)) s in
+      least.least k le (holding-admits depth_of tuples deep tracks depth here.solution f.label k parts here.holds here.key)
 
-  pub next-raised : (key : Id) → found ≡ Some key → IsRaised tuples levels tracks tracks depth first key.0
-  next-raised key e = record {
-    same = same-itself depth tracks;
-    above = λ g.
-        let low = ap (λ h. from_of h.from) (level-is g) in
-        let up : from ≤ key.0 = subst (λ b. IfSome b (λ r. from ≤ r.0)) e least.above in
-        omega (arith, low, at_from, up);
-    least = λ n k g _ s le. subst (λ b. IsReached b k) e (next-reached n k g s le);
-    admitted = λ _ g. subst (λ h. AllAdmitAt tuples tracks depth h.label key.0) (level-is g) (subst (λ b. IfSome b (λ r. AllAdmitAt tuples tracks depth f.label r.0)) e least.there);
-  }
+  -- it is one that they admit
+  pub next-admitted : (g : Level) → IfSome found (λ r. AllAdmitAt tuples tracks depth (slice_index_or levels depth g).label r.0)
+  next-admitted g = subst (λ h. IfSome found (λ r. AllAdmitAt tuples tracks depth h.label r.0)) (level-at levels depth f is within g) least.there
 
-module _ {O : Type 0} (tuples : O → IdSet) (levels : List Level) (old now : List (Track O)) (depth first next : ℕ) (before : IsRaised tuples levels old now depth first next) (l m : ℕ) (at_label : (g : Level) → l ≡ (slice_index_or levels depth g).label) (listed : (n : ℕ) → AreBelow n levels → m < n) (found : Option Id) (least : (n k : ℕ) → m < n → HasSolutionAt tuples n now depth l k → next ≤ k → IsReached found k) where
+module _ {O : Type 0} (tuples : O → IdSet) (levels : List Level) (old now : List (Track O)) (depth from next : ℕ) (before : IsRaised tuples levels old now depth from next) (l m : ℕ) (at_label : (g : Level) → l ≡ (slice_index_or levels depth g).label) (listed : (n : ℕ) → AreBelow n levels → m < n) (found : Option Id) (least : (n k : ℕ) → m < n → HasSolutionAt tuples n now depth l k → next ≤ k → IsReached found k) where
   -- once it was raised through one label more
-  pub raised-reached : (n k : ℕ) (g : Level) → AreBelow n levels → HasSolutionAt tuples n old depth (slice_index_or levels depth g).label k → from_of (slice_index_or levels depth g).from ≤ k → IsReached found k
+  pub raised-reached : (n k : ℕ) (g : Level) → AreBelow n levels → HasSolutionAt tuples n old depth (slice_index_or levels depth g).label k → from ≤ k → IsReached found k
   raised-reached n k g below s le =
       least n k (listed n below) (solution-same old now depth before.same.number before.same.each tuples n l k (subst (λ i. HasSolutionAt tuples n old depth i k) (sym (at_label g)) s)) (before.least n k g below s le)
 
-  pub raised-more : (key : Id) (after : List (Track O)) → found ≡ Some key → next ≤ key.0 → AreSameTo depth now after → first < length levels → IsRaised tuples levels old after depth first key.0
-  raised-more key after e up same some = record {
+  pub raised-more : (key : Id) (after : List (Track O)) → found ≡ Some key → next ≤ key.0 → AreSameTo depth now after → IsRaised tuples levels old after depth from key.0
+  raised-more key after e up same = record {
     same = sames-twice depth old now after before.same same;
-    above = λ g. let low = before.above g in omega (arith, low, up);
+    above = let low = before.above in omega (arith, low, up);
     least = λ n k g below s le. subst (λ b. IsReached b k) e (raised-reached n k g below s le);
-    admitted = λ is g. absurd (omega (arith, is, some));
   }

@@ -16,11 +16,12 @@ use Rattle.bag_list.specs.declared.labels.Labels.{Labels}
 use Rattle.bag_list.specs.declared.track.Part.{Part}
 use Rattle.bag_list.specs.declared.track.Track.{Track}
 use Rattle.bag_list.specs.Labels.{placed, labels_of, mask_of, without}
-use Rattle.bag_list.specs.Tracks.{AdmitsAt, IsFixed, IsPart, IsSameTo, part_at}
+use Rattle.bag_list.specs.Tracks.{AdmitsAt, IsFixed, IsPart, IsSameTo, part_at, part_set, set_with}
 use Rattle.std.proofs.lemmas.List.{get_or_append_left, get_or_default, get_or_push, get_or-set_same, get_or-set_other, take_more_set, length-append, length-take-le}
 use Rattle.std.specs.Prelude.{slice_set}
 use native.Mathlib.Decide.{dec_lt}
-use Rattle.bag_list.proofs.Images.{has-slice, at-is_at, mask-fits, positions-left}
+use Rattle.bag_list.proofs.Images.{has-slice, at-is_at, mask-fits, mask-none, positions-left}
+use Rattle.bag_list.proofs.PartSets.{admits-part, has-one, last-has, mask-long, one-some, set-deep, set-long, set-some}
 use Rattle.bag_list.proofs.Places.{both_more, to_next}
 
 placed-short : (p q r : Option ℕ) → length (placed (p ∷ q ∷ r ∷ [])) ≤ 3
@@ -37,26 +38,49 @@ pub labels-short : (ls : Labels) → length (labels_of ls) ≤ 3
 labels-short ls = placed-short ls.0 ls.1 ls.2
 
 module _ {O : Type 0} (depth_of : O → ℕ) (tuples : O → IdSet) (deep : (o : O) → HasDepth (depth_of o) (tuples o)) where
-  pub part-deep : (p : Part O) → IsPart depth_of tuples p → HasDepth (length (labels_of p.labels)) (tuples p.op)
-  part-deep p is = subst (λ d. HasDepth d (tuples p.op)) is.deep (deep p.op)
+  pub part-deep : (p : Part O) → IsPart depth_of tuples p → HasDepth (length (labels_of p.labels)) (part_set tuples p)
+  part-deep p is = set-deep (labels_of p.labels) (tuples p.op) (λ some. subst (λ d. HasDepth d (tuples p.op)) (is.deep some) (deep p.op))
 
-  -- the slice at the positions of a label
-  pub fixed-slice : (l k m : ℕ) (p : Part O) (op : O) (ls : Labels) → IsPart depth_of tuples p → m ≡ mask_of l (labels_of p.labels) → labels_of ls ≡ without l (labels_of p.labels) → tuples op ≡ slice_at_mask nat_cmp (tuples p.op) m k → slice_at_mask nat_cmp (tuples p.op) m k ≢ empty nat_cmp → depth_of op + n_positions m ≡ depth_of p.op → IsFixed depth_of tuples l k p (record { op = op; labels = ls })
-  fixed-slice l k m p op ls is mask labels slice some depth = record {
+  -- a pattern without the label
+  pub fixed-nowhere : (l k : ℕ) (p : Part O) → IsPart depth_of tuples p → mask_of l (labels_of p.labels) ≡ 0 → IsFixed depth_of tuples l k p p
+  fixed-nowhere l k p is none = record { part = is; labels = sym (mask-none l (labels_of p.labels) none); image = λ a here. refl }
+
+  -- the last label of a pattern
+  pub fixed-last : (l k : ℕ) (p : Part O) (op : O) (ls : Labels) → IsPart depth_of tuples p → labels_of ls ≡ without l (labels_of p.labels) → labels_of ls ≡ [] → AdmitsAt tuples l p k → IsFixed depth_of tuples l k p (record { op = op; labels = ls })
+  fixed-last l k p op ls is labels none admits = record {
     part = record {
-      deep =
-          let left = positions-left l (labels_of p.labels) (labels-short p.labels) in
-          let same = ap n_positions mask in
-          let whole = is.deep in
-          let n = ap length labels in
-          omega (arith, left, same, depth, whole, n);
-      some = λ e. some (sym slice ∙ e);
+      deep = λ some. absurd (let n = ap length none in omega (arith, n, some));
+      some = subst (λ xs. set_with xs (tuples op) ≢ empty nat_cmp) (sym none) one-some;
     };
     labels = labels;
     image = λ a here.
-        (λ j. has ((slice ∙ ap (λ i. slice_at_mask nat_cmp (tuples p.op) i k) mask) j) (image a (labels j)))
-        ∙ has-slice l k a (at-is_at l k a here) (tuples p.op) (labels_of p.labels) (part-deep p is);
+        ap (λ xs. has (set_with xs (tuples op)) (image a xs)) none ∙ has-one
+        ∙ sym (last-has l k a (at-is_at l k a here) (part_set tuples p) (labels_of p.labels) (part-deep p is) is.some (sym labels ∙ none) (admits-part tuples l k p admits));
   }
+
+  -- the slice at the positions of a label
+  pub fixed-slice : (l k m : ℕ) (p : Part O) (op : O) (ls : Labels) → IsPart depth_of tuples p → m ≡ mask_of l (labels_of p.labels) → 1 ≤ m → labels_of ls ≡ without l (labels_of p.labels) → 1 ≤ length (labels_of ls) → tuples op ≡ slice_at_mask nat_cmp (tuples p.op) m k → slice_at_mask nat_cmp (tuples p.op) m k ≢ empty nat_cmp → depth_of op + n_positions m ≡ depth_of p.op → IsFixed depth_of tuples l k p (record { op = op; labels = ls })
+  fixed-slice l k m p op ls is mask there labels long slice some depth = record {
+    part = record {
+      deep = λ _.
+          let left = positions-left l (labels_of p.labels) (labels-short p.labels) in
+          let same = ap n_positions mask in
+          let whole = is.deep some_labels in
+          let n = ap length labels in
+          omega (arith, left, same, depth, whole, n);
+      some = set-some (labels_of ls) (tuples op) (λ e. some (sym slice ∙ e));
+    };
+    labels = labels;
+    image = λ a here.
+        ap (λ H. has H (image a (labels_of ls))) (set-long (labels_of ls) (tuples op) long)
+        ∙ (λ j. has ((slice ∙ ap (λ i. slice_at_mask nat_cmp (tuples p.op) i k) mask ∙ ap (λ H. slice_at_mask nat_cmp H (mask_of l (labels_of p.labels)) k) (sym whole_set)) j) (image a (labels j)))
+        ∙ has-slice l k a (at-is_at l k a here) (part_set tuples p) (labels_of p.labels) (part-deep p is);
+  } where
+    some_labels : 1 ≤ length (labels_of p.labels)
+    some_labels = mask-long l (labels_of p.labels) (subst (λ i. 1 ≤ i) mask there)
+
+    whole_set : part_set tuples p ≡ tuples p.op
+    whole_set = set-long (labels_of p.labels) (tuples p.op) some_labels
 
 -- ---- one pattern after another
 
@@ -158,7 +182,7 @@ module _ {O : Type 0} (depth_of : O → ℕ) (tuples : O → IdSet) (tracks : Li
 
     fits : FitsDepth m.0 (depth_of q.op)
     fits =
-        subst (λ d. FitsDepth m.0 d) (sym part.deep)
+        subst (λ d. FitsDepth m.0 d) (sym (part.deep (mask-long l (labels_of q.labels) (omega (arith, some, mask)))))
         (subst (λ b. FitsDepth b (length (labels_of q.labels))) (sym mask) (mask-fits l (labels_of q.labels) (omega (arith, some, mask))))
 
     none_left : (k : ℕ) → ((j : ℕ) (t : Track O) (p : Part O) → j < i + 1 → AdmitsAt tuples l (part_at tracks depth j t p) k) → slice_at_mask nat_cmp (tuples q.op) m.0 k ≡ empty nat_cmp → ⊥

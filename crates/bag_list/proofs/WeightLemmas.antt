@@ -7,7 +7,7 @@ use Rattle.bag_list.specs.Levels.{from_of}
 use Rattle.bag_list.specs.Search.{power, weight}
 use Rattle.bag_list.proofs.Places.{append_none}
 
-power-some : (h : ℕ) → 0 < power h
+pub power-some : (h : ℕ) → 0 < power h
 power-some zero = omega arith
 power-some (suc h) = let rest = power-some h in omega (arith, rest)
 

@@ -1,6 +1,6 @@
 -- Which assignments of a list are still to come, where labels are fixed one after another.
-use Rattle.std.specs.Prelude.{ℕ, zero, suc, ◌^◌, ◌&&◌, ◌||◌, Bool, true, false, not, nat_lt, nat_eq, ◌<◌, List, [], ◌∷◌, ◌++◌, length, map, slice_index_or, Option, None, Some, cond}
-use Rattle.std.specs.List.{filter, list_any}
+use Rattle.std.specs.Prelude.{◌≡◌, ℕ, zero, suc, ◌^◌, ◌&&◌, ◌||◌, Bool, true, false, not, nat_lt, nat_eq, ◌<◌, List, [], ◌∷◌, ◌++◌, length, map, slice_index_or, Option, None, Some, cond}
+use Rattle.std.specs.List.{filter, list_any, range_with_len}
 use Rattle.std.specs.Ordering.{nat_cmp}
 use Rattle.hypertrie_model.specs.Slices.{is_at}
 use Rattle.trie_depth.specs.declared.id.Id.{Id}
@@ -74,3 +74,14 @@ tells columns distinct l = not distinct || list_any (is_label l) columns
 abbrev pub is_telling : List (Option ℕ) → Bool → Bool → ℕ → Bool
 is_telling columns distinct true l = tells columns distinct l
 is_telling columns distinct false l = not (tells columns distinct l)
+
+-- the labels below n that tell rows apart, or those that don't; and all, the former first
+abbrev pub labels_telling : List (Option ℕ) → Bool → Bool → ℕ → List ℕ
+labels_telling columns distinct telling n = filter (is_telling columns distinct telling) (range_with_len 0 n)
+
+abbrev pub labels_in_order : List (Option ℕ) → Bool → ℕ → List ℕ
+labels_in_order columns distinct n = labels_telling columns distinct true n ++ labels_telling columns distinct false n
+
+-- a level was added for each of the former, or of the latter
+abbrev pub AddsLevels : List (Option ℕ) → Bool → Bool → ℕ → List Level → List Level → Type 0
+AddsLevels columns distinct telling n old now = level_labels now ≡ level_labels old ++ labels_telling columns distinct telling n

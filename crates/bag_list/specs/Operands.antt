@@ -5,13 +5,13 @@ use Rattle.bag_list.specs.declared.join.Join.{Join}
 use Rattle.bag_list.specs.declared.level.Level.{Level}
 use Rattle.bag_list.specs.declared.operands.Operands.{Operands}
 use Rattle.bag_list.specs.declared.track.Track.{Track}
-use Rattle.bag_list.specs.Joins.{HasRoom, IsJoin}
+use Rattle.bag_list.specs.Joins.{AllHaveRoom, HasRoom, IsJoin}
 use Rattle.bag_list.specs.Tracks.{AllAdmitAt, AreFixed, AreParts, AreRoomy, AreSameTo}
 
 -- there is room for an operand of each pattern, at each of n levels and for the labels that a key is looked for through
 pub record AreRoom {O : Type 0} (n : ℕ) (s : Operands O) : Type 0 where
   pub number : length s.joins.items ≡ n
-  pub joins : (i : ℕ) (j : Join O) → i < n → HasRoom (length s.tracks.items) (slice_index_or s.joins.items i j)
+  pub joins : AllHaveRoom (length s.tracks.items) n s.joins.items
   pub other : HasRoom (length s.tracks.items) s.other
   pub behind : HasRoom (length s.tracks.items) s.behind
 

@@ -22,6 +22,10 @@ module _ {O : Type 0} (tuples : O → IdSet) (s : Operands O) where
   abbrev pub NoneLeftBefore : List Level → ℕ → Option Id → Type 0
   NoneLeftBefore levels depth b = (n k : ℕ) (f : Level) → AreBelow n levels → HasSolutionAt tuples n s.tracks.items depth (slice_index_or levels depth f).label k → from_of (slice_index_or levels depth f).from ≤ k → MatchOption b ⊥ (λ r. r.0 ≤ k)
 
+  -- no solution has a key of the level that is from k on and before b
+  abbrev pub NoneRaisedBefore : List Level → ℕ → ℕ → Option Id → Type 0
+  NoneRaisedBefore levels depth k b = (n q : ℕ) (f : Level) → AreBelow n levels → HasSolutionAt tuples n s.tracks.items depth (slice_index_or levels depth f).label q → k ≤ q → MatchOption b ⊥ (λ r. r.0 ≤ q)
+
   -- no solution that has the label m has a key that is sought before b
   abbrev pub NoneBefore : ℕ → Sought → Option Id → Type 0
   NoneBefore m sought b = (n k : ℕ) → m < n → HasSolutionAt tuples n s.tracks.items sought.depth sought.label k → sought.from.0 ≤ k → MatchOption b ⊥ (λ r. r.0 ≤ k)

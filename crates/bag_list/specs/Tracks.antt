@@ -3,7 +3,7 @@ use Rattle.std.specs.Prelude.{◌≡◌, ◌≢◌, ℕ, ◌+◌, ◌-◌, ◌^�
 use Rattle.std.specs.List.{AllByRecursion}
 use Rattle.std.specs.Ordering.{nat_cmp}
 use Rattle.hypertrie_model.specs.IdSets.{IdSet}
-use Rattle.hypertrie_model.specs.Sets.{has, empty}
+use Rattle.hypertrie_model.specs.Sets.{has, empty, single}
 use Rattle.hypertrie_model.specs.Slices.{at, is_at}
 use Rattle.trie_depth.specs.Operands.{Admits}
 use Rattle.bag_model.specs.Solutions.{Rest, image}
@@ -22,6 +22,10 @@ unfixed (f ∷ fs) ls = unfixed fs (without f.label ls)
 -- what is left of a pattern after so many levels
 abbrev pub part_at : {O : Type 0} → List (Track O) → ℕ → ℕ → Track O → Part O → Part O
 part_at tracks depth i t p = slice_index_or (slice_index_or tracks i t).parts.items depth p
+
+-- each of the first n parts is p
+abbrev pub AllPartsAre : {O : Type 0} → Part O → ℕ → Track O → Type 0
+AllPartsAre p n t = (j : ℕ) (q : Part _) → j < n → slice_index_or t.parts.items j q ≡ p
 
 -- t has the same start as s, and the same parts up to this depth
 pub record IsSameTo {O : Type 0} (depth : ℕ) (s t : Track O) : Type 0 where
@@ -42,6 +46,11 @@ AreRoomy depth tracks = (i : ℕ) (t : Track _) → i < length tracks → depth 
 abbrev pub HasEmpty : {O : Type 0} → List (Start O) → Type 0
 HasEmpty starts = (i : ℕ) × (i < length starts) × ((s : Start _) → (slice_index_or starts i s).op ≡ None)
 
+-- the set of an operand where such labels are left: without any, the one tuple of no key, whatever the operand is
+abbrev pub set_with : List ℕ → IdSet → IdSet
+set_with [] H = single nat_cmp []
+set_with (l ∷ ls) H = H
+
 module _ {O : Type 0} (tuples : O → IdSet) where
   abbrev pub rest_of : Part O → Rest nat_cmp
   rest_of p = record { tuples = tuples p.op; labels = labels_of p.labels }
@@ -50,17 +59,38 @@ module _ {O : Type 0} (tuples : O → IdSet) where
   abbrev pub rests : List (Track O) → List (Rest nat_cmp)
   rests tracks = map (λ t. rest_of t.start) tracks
 
+  -- what the part stands for
+  abbrev pub part_set : Part O → IdSet
+  part_set p = set_with (labels_of p.labels) (tuples p.op)
+
   -- some key is left for k at the label l, if it has the label
   abbrev pub AdmitsAt : ℕ → Part O → ℕ → Type 0
   AdmitsAt l p k = 1 ≤ mask_of l (labels_of p.labels) → Admits (tuples p.op) (mask_of l (labels_of p.labels)) k
+
+  -- the same of what so many levels leave of a pattern
+  abbrev pub AdmitsIn : ℕ → ℕ → Track O → ℕ → Type 0
+  AdmitsIn depth l t k = (p : Part O) → AdmitsAt l (slice_index_or t.parts.items depth p) k
 
   -- each pattern that has the label l after so many levels admits k there
   abbrev pub AllAdmitAt : List (Track O) → ℕ → ℕ → ℕ → Type 0
   AllAdmitAt tracks depth l k = (i : ℕ) (t : Track O) (p : Part O) → i < length tracks → AdmitsAt l (part_at tracks depth i t p) k
 
+  -- a label of the part has no key there
+  pub record LacksKey (p : Part O) : Type 0 where
+    pub label : ℕ
+    pub there : 1 ≤ mask_of label (labels_of p.labels)
+    pub none : (k : ℕ) → AdmitsAt label p k → ⊥
+
+  -- the same of a pattern before a label is fixed, and of some pattern
+  abbrev pub LacksKeyIn : Track O → Type 0
+  LacksKeyIn t = (p : Part O) → LacksKey (slice_index_or t.parts.items 0 p)
+
+  abbrev pub SomeLacksKey : List (Track O) → Type 0
+  SomeLacksKey tracks = (i : ℕ) × (i < length tracks) × ((t : Track O) → LacksKeyIn (slice_index_or tracks i t))
+
   -- the assignment gives each pattern, as it is after so many levels, one of its tuples
   abbrev pub AllHold : List (Track O) → ℕ → List ℕ → Type 0
-  AllHold tracks depth a = (i : ℕ) (t : Track O) (p : Part O) → i < length tracks → has (tuples (part_at tracks depth i t p).op) (image a (labels_of (part_at tracks depth i t p).labels)) ≡ true
+  AllHold tracks depth a = (i : ℕ) (t : Track O) (p : Part O) → i < length tracks → has (part_set (part_at tracks depth i t p)) (image a (labels_of (part_at tracks depth i t p).labels)) ≡ true
 
   -- what so many levels leave has a solution of n ids with k at the label l
   pub record HasSolutionAt (n : ℕ) (tracks : List (Track O)) (depth l k : ℕ) : Type 0 where
@@ -78,11 +108,19 @@ module _ {O : Type 0} (tuples : O → IdSet) where
   abbrev pub rests_of : List (Start O) → List (Rest nat_cmp)
   rests_of starts = map (λ s. record { tuples = start_set s.op; labels = array_labels s.labels }) starts
 
+  -- the patterns are those of the starts
+  abbrev pub HaveStarts : List (Start O) → List (Track O) → Type 0
+  HaveStarts starts tracks = rests tracks ≡ rests_of starts
+
 module _ {O : Type 0} (depth_of : O → ℕ) (tuples : O → IdSet) where
-  -- the operand has a position for each label, and some tuple
+  -- where a label is left, the operand has a position for each; and there is some tuple
   pub record IsPart (p : Part O) : Type 0 where
-    pub deep : depth_of p.op ≡ length (labels_of p.labels)
-    pub some : tuples p.op ≢ empty nat_cmp
+    pub deep : 1 ≤ length (labels_of p.labels) → depth_of p.op ≡ length (labels_of p.labels)
+    pub some : part_set tuples p ≢ empty nat_cmp
+
+  -- something is left of the pattern after so many levels
+  abbrev pub IsPartIn : ℕ → Track O → Type 0
+  IsPartIn depth t = (p : Part O) → IsPart (slice_index_or t.parts.items depth p)
 
   -- something is left of each pattern after so many levels
   abbrev pub AreParts : ℕ → List (Track O) → Type 0
@@ -92,7 +130,11 @@ module _ {O : Type 0} (depth_of : O → ℕ) (tuples : O → IdSet) where
   pub record IsFixed (l k : ℕ) (p r : Part O) : Type 0 where
     pub part : IsPart r
     pub labels : labels_of r.labels ≡ without l (labels_of p.labels)
-    pub image : (a : List ℕ) → is_at nat_cmp l k a ≡ true → has (tuples r.op) (image a (labels_of r.labels)) ≡ has (tuples p.op) (image a (labels_of p.labels))
+    pub image : (a : List ℕ) → is_at nat_cmp l k a ≡ true → has (part_set tuples r) (image a (labels_of r.labels)) ≡ has (part_set tuples p) (image a (labels_of p.labels))
+
+  -- t has one level deeper what is left of s where the label l has the key k
+  abbrev pub IsFixedIn : ℕ → ℕ → ℕ → Track O → Track O → Type 0
+  IsFixedIn depth l k s t = (p : Part O) → IsFixed l k (slice_index_or s.parts.items depth p) (slice_index_or t.parts.items (depth + 1) p)
 
   -- now is what is left of each pattern one level deeper, where the label l has the key k
   abbrev pub AreFixed : ℕ → ℕ → ℕ → List (Track O) → List (Track O) → Type 0
@@ -102,7 +144,7 @@ module _ {O : Type 0} (depth_of : O → ℕ) (tuples : O → IdSet) where
   pub record IsLeft (fs : List Level) (s p : Part O) : Type 0 where
     pub part : IsPart p
     pub labels : labels_of p.labels ≡ unfixed fs (labels_of s.labels)
-    pub image : (a : List ℕ) → agrees fs a ≡ true → has (tuples p.op) (image a (labels_of p.labels)) ≡ has (tuples s.op) (image a (labels_of s.labels))
+    pub image : (a : List ℕ) → agrees fs a ≡ true → has (part_set tuples p) (image a (labels_of p.labels)) ≡ has (tuples s.op) (image a (labels_of s.labels))
 
   -- before each of the first m levels, and n in all, there stands what the levels before it leave; what all n leave is nowhere
   pub record IsTrack (n m : ℕ) (fs : List Level) (t : Track O) : Type 0 where

@@ -1,8 +1,8 @@
 //! The operands that have a label.
-ghost use Rattle.std.specs.Prelude.{◌≡◌, ◌<◌, ◌≤◌, ℕ, IfOk, length, slice_index_or, take};
-ghost use Rattle.key_join.specs.Common.{AllFit, AllAdmit};
+ghost use Rattle.std.specs.Prelude.{◌≡◌, ◌<◌, ◌≤◌, ℕ, IfOk, length, take};
+ghost use Rattle.key_join.specs.Common.{AllFit};
 ghost use Rattle.key_join.specs.Least.{IsLeastFrom};
-ghost use Rattle.bag_list.specs.Joins.{AllJoined, HasRoom, IsJoin, IsJoinable};
+ghost use Rattle.bag_list.specs.Joins.{AllHaveRoom, AllJoined, AllTaken, HasRoom, IsJoin, IsJoinable};
 ghost use Rattle.bag_list.specs.Tracks.{AllAdmitAt, AreParts, AreRoomy};
 
 use crate::track::Track;
@@ -68,7 +68,7 @@ pub fn joins_of<O: Operand>(
     n: usize,
 ) -> Result<Vec<Join<O>>, Memory>
     ensures number { IfOk result (λ joins. length joins.items ≡ n) }
-    ensures room { IfOk result (λ joins. (i : ℕ) (j : _) → i < n → HasRoom (length tracks.now) (slice_index_or joins.items i j)) }
+    ensures room { IfOk result (λ joins. AllHaveRoom (length tracks.now) n joins.items) }
 {
     let mut joins = Vec::new(alloc);
     for _level in 0..n {
@@ -91,8 +91,8 @@ fn gather<O: Operand>(
     requires masks { length masks.old ≡ length tracks.now }
     ensures within { result ≤ length tracks.now }
     ensures fit { AllFit O.depth_of (take result ops.new) (take result masks.new) }
-    ensures asked { (k : ℕ) → AllAdmitAt O.tuples tracks.now depth label k → AllAdmit O.tuples (take result ops.new) (take result masks.new) k }
-    ensures whole { (k : ℕ) → AllAdmit O.tuples (take result ops.new) (take result masks.new) k → AllAdmitAt O.tuples tracks.now depth label k }
+    ensures asked { (k : ℕ) → AllAdmitAt O.tuples tracks.now depth label k → AllTaken O.tuples result ops.new masks.new k }
+    ensures whole { (k : ℕ) → AllTaken O.tuples result ops.new masks.new k → AllAdmitAt O.tuples tracks.now depth label k }
 {
     let mut count = 0;
     for i in 0..tracks.len() {

@@ -1,5 +1,5 @@
 //! The labels of a pattern's places.
-ghost use Rattle.std.specs.Prelude.{◌≡◌, ◌+◌, ◌*◌, ◌<◌, ◌≤◌};
+ghost use Rattle.std.specs.Prelude.{◌≡◌, ◌↔◌, ◌+◌, ◌*◌, ◌<◌, ◌≤◌, [], IfSome, IsTrue};
 ghost use Rattle.bag_list.specs.Labels.{labels_of, mask_of, mask_with, place_without, without};
 
 use trie_depth::Mask;
@@ -17,6 +17,23 @@ impl Labels {
         let third = with_place(self.2, label, 0);
         let second = with_place(self.1, label, third);
         Mask(with_place(self.0, label, second))
+    }
+
+    /// Whether no label is left.
+    pub fn is_none(self) -> bool
+        ensures { IsTrue result ↔ (labels_of self ≡ []) }
+    {
+        self.0.is_none() && self.1.is_none() && self.2.is_none()
+    }
+
+    /// A label that stands at two places, if there is one.
+    pub fn doubled(self) -> Option<u8>
+        ensures { IfSome result (λ l. 1 ≤ mask_of l (labels_of self)) }
+    {
+        if self.0 == self.1 || self.0 == self.2 {
+            return self.0;
+        }
+        if self.1 == self.2 { self.1 } else { None }
     }
 
     /// Without a label.

@@ -1,7 +1,6 @@
 //! The labels in the order in which they are fixed.
-ghost use Rattle.std.specs.Prelude.{◌≡◌, ◌+◌, ◌^◌, ◌≤◌, ◌++◌, true, false, length, IfOk, OnOk};
-ghost use Rattle.std.specs.List.{filter, range_with_len};
-ghost use Rattle.bag_list.specs.Levels.{from_of, level_labels, tells, is_telling};
+ghost use Rattle.std.specs.Prelude.{◌≡◌, ◌+◌, ◌^◌, ◌≤◌, true, false, length, IfOk, OnOk};
+ghost use Rattle.bag_list.specs.Levels.{AddsLevels, from_of, labels_in_order, labels_telling, level_labels, tells};
 
 use std::alloc::Global;
 use trie_depth::{Id, Memory};
@@ -34,8 +33,8 @@ pub fn levels_of(
     columns: &[Option<u8>],
     distinct: bool,
 ) -> Result<(Vec<Level>, usize), Memory>
-    ensures labels { IfOk result (λ r. level_labels r.0.items ≡ filter (is_telling columns.now distinct true) (range_with_len 0 n) ++ filter (is_telling columns.now distinct false) (range_with_len 0 n)) }
-    ensures told { IfOk result (λ r. r.1 ≡ length (filter (is_telling columns.now distinct true) (range_with_len 0 n))) }
+    ensures labels { IfOk result (λ r. level_labels r.0.items ≡ labels_in_order columns.now distinct n) }
+    ensures told { IfOk result (λ r. r.1 ≡ length (labels_telling columns.now distinct true n)) }
 {
     let mut levels = Vec::new(alloc);
     add_levels(&mut levels, n, columns, distinct, true)?;
@@ -52,7 +51,7 @@ fn add_levels(
     distinct: bool,
     telling: bool,
 ) -> Result<(), Memory>
-    ensures { OnOk result (level_labels levels.new.items ≡ level_labels levels.old.items ++ filter (is_telling columns.now distinct telling) (range_with_len 0 n)) }
+    ensures { OnOk result (AddsLevels columns.now distinct telling n levels.old.items levels.new.items) }
 {
     for label in 0..n {
         if tells(columns, distinct, label) == telling {

@@ -1,11 +1,11 @@
 //! The patterns of a search.
 ghost use Rattle.std.specs.Prelude.{◌≡◌, ◌≤◌, ℕ, true, false, IsTrue, IfOk};
 ghost use Rattle.bag_list.specs.Operands.{AreReady, AreRoom, AreSameBut, CanEnter, IsEntered, IsKeptTo, IsOpened};
-ghost use Rattle.bag_list.specs.Tracks.{AllAreStarts, AreTracks, HasEmpty, rests, rests_of};
+ghost use Rattle.bag_list.specs.Tracks.{AllAreStarts, AreTracks, HasEmpty, HaveStarts, SomeLacksKey};
 
 use crate::join::{Join, joins_of};
 use crate::level::Level;
-use crate::track::{Start, Track, enter_all, tracks_of};
+use crate::track::{Start, Track, enter_all, lacks_key, tracks_of};
 use std::alloc::Global;
 use std::sync::ledger::Ledger;
 use trie_depth::{Memory, Operand, Steps};
@@ -29,7 +29,7 @@ impl<O: Operand> Operands<O> {
         requires starts { AllAreStarts O.depth_of O.tuples n starts.now }
         ensures room { IfOk result (λ r. AreRoom n r.0) }
         ensures tracks { IfOk result (λ r. (fs : _) → AreTracks O.depth_of O.tuples n 1 fs r.0.tracks.items) }
-        ensures whole { IfOk result (λ r. IsTrue r.1 → rests O.tuples r.0.tracks.items ≡ rests_of O.tuples starts.now) }
+        ensures whole { IfOk result (λ r. IsTrue r.1 → HaveStarts O.tuples starts.now r.0.tracks.items) }
         ensures empty { IfOk result (λ r. r.1 ≡ false → HasEmpty starts.now) }
     {
         let (tracks, fresh) = tracks_of(alloc, starts, n)?;
@@ -45,6 +45,14 @@ impl<O: Operand> Operands<O> {
         Ok((operands, fresh))
     }
 
+    /// Whether some pattern has a label at two places, and no key stands at both. Nothing is fixed yet.
+    pub fn lacks_key<W: Ledger>(&self, reads: &mut Steps<W>) -> bool
+        requires { AreReady O.depth_of O.tuples 0 self.now }
+        ensures { IsTrue result → SomeLacksKey O.tuples self.now.tracks.items }
+    {
+        lacks_key(&self.tracks, reads)
+    }
+
     /// Gathers what has the label of a level.
     pub fn open(&mut self, depth: usize, label: u8)
         requires { AreReady O.depth_of O.tuples depth self.old }
@@ -56,34 +64,33 @@ impl<O: Operand> Operands<O> {
         self.joins[depth].gather(&self.tracks, depth, label);
     }
 
-    /// Fixes the label of a level at its key in every pattern. False where nothing is left of one.
-    pub fn enter<W: Ledger>(&mut self, depth: usize, level: Level, reads: &mut Steps<W>) -> bool
-        requires { AreReady O.depth_of O.tuples depth self.old }
+    /// Fixes the label of a level in every pattern at its key, which all admit.
+    pub fn enter<W: Ledger>(&mut self, depth: usize, level: Level, reads: &mut Steps<W>)
+        requires ready { AreReady O.depth_of O.tuples depth self.old }
+        requires admitted { CanEnter O.tuples depth level self.old }
         ensures kept { IsKeptTo O.depth_of O.tuples depth self.old self.new }
         ensures other { self.new.other ≡ self.old.other }
-        ensures some { IsTrue result → IsEntered O.depth_of O.tuples depth level self.old self.new }
-        ensures none { result ≡ false → CanEnter O.tuples depth level self.old → ⊥ }
+        ensures entered { IsEntered O.depth_of O.tuples depth level self.old self.new }
     {
-        enter_all(&mut self.tracks, depth, level.label, level.key, reads)
+        enter_all(&mut self.tracks, depth, level.label, level.key, reads);
     }
 
-    /// The same for a key that every pattern admits. What the last label of all leaves is asked for nowhere, so nothing is
-    /// fixed.
+    /// The same, but for the last label of all: what that leaves is asked for nowhere.
     pub fn enter_next<W: Ledger>(
         &mut self,
         depth: usize,
         is_last: bool,
         level: Level,
         reads: &mut Steps<W>,
-    ) -> bool
-        requires { AreReady O.depth_of O.tuples depth self.old }
+    )
+        requires ready { AreReady O.depth_of O.tuples depth self.old }
+        requires admitted { CanEnter O.tuples depth level self.old }
         ensures kept { IsKeptTo O.depth_of O.tuples depth self.old self.new }
-        ensures some { IsTrue result → is_last ≡ false → IsEntered O.depth_of O.tuples depth level self.old self.new }
-        ensures none { result ≡ false → CanEnter O.tuples depth level self.old → ⊥ }
+        ensures entered { is_last ≡ false → IsEntered O.depth_of O.tuples depth level self.old self.new }
     {
         if is_last {
-            return true;
+            return;
         }
-        self.enter(depth, level, reads)
+        self.enter(depth, level, reads);
     }
 }

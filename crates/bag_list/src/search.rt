@@ -1,8 +1,8 @@
 //! The search for solutions. Labels are fixed one after another, and the last one goes on to its next key.
-ghost use Rattle.std.specs.Prelude.{◌≡◌, ◌+◌, ◌<◌, ◌≤◌, ℕ, true, false, List, [], ◌∷◌, ◌++◌, IsTrue, IfOk, IfSome, length, slice_index_or};
+ghost use Rattle.std.specs.Prelude.{◌≡◌, ◌+◌, ◌-◌, ◌<◌, ◌≤◌, ℕ, true, false, IsTrue, IfOk, IfSome, length};
 ghost use Rattle.std.specs.List.{AllByRecursion};
 ghost use Rattle.std.specs.List.Sorted.{IsPermutation};
-ghost use Rattle.bag_list.specs.Rows.{Row, row_here, rows_to_come};
+ghost use Rattle.bag_list.specs.Rows.{EndsBefore, GivesRow, HasEnded, LeavesOut};
 ghost use Rattle.bag_list.specs.Search.{IsKept, IsSameQuery, coming_of, id_solutions, steps_left};
 ghost use Rattle.bag_list.specs.Tracks.{AllAreStarts, AreParts, AreRoomy, rests_of};
 
@@ -33,7 +33,7 @@ pub struct Search<O: Operand> {
     /// The key of each label, where it is fixed.
     pub values: Vec<Id>,
     pub counts: Vec<u64>,
-    /// How many keys of the last label that tells rows apart were tried since the last row.
+    /// How many keys of the last label that tells rows apart were tried since the last row, and some of those before.
     pub tries: u64,
 }
 
@@ -77,8 +77,8 @@ impl<O: Operand> Search<O> {
         requires { IsKept O.depth_of O.tuples self.old }
         ensures kept { IsKept O.depth_of O.tuples self.new }
         ensures same { IsSameQuery O.tuples self.old self.new }
-        ensures none { result ≡ false → (rows_to_come O.tuples self.old ≡ []) × (rows_to_come O.tuples self.new ≡ []) }
-        ensures some { IsTrue result → IsPermutation (rows_to_come O.tuples self.old) (row_here self.new ∷ rows_to_come O.tuples self.new) }
+        ensures none { result ≡ false → HasEnded O.tuples self.old self.new }
+        ensures some { IsTrue result → GivesRow O.tuples self.old self.new }
     {
         loop {
             if !self.fresh {
@@ -91,14 +91,31 @@ impl<O: Operand> Search<O> {
             } else {
                 self.fresh = false;
                 self.depth = self.told;
-                self.tries = 0;
+                self.tries = fewer(self.tries);
                 return true;
             }
         }
     }
 
-    /// Chooses the label that is fixed next.
+    /// Chooses the label that is fixed next. Before the first one, nothing is to come where a pattern lacks a key.
     fn open<W: Ledger>(&mut self, reads: &mut Steps<W>)
+        requires kept { IsKept O.depth_of O.tuples self.old }
+        requires fresh { self.old.fresh ≡ true }
+        requires deeper { self.old.depth < length self.old.levels.items }
+        ensures kept { IsKept O.depth_of O.tuples self.new }
+        ensures same { IsSameQuery O.tuples self.old self.new }
+        ensures coming { coming_of O.tuples self.new ≡ coming_of O.tuples self.old }
+        ensures less { steps_left self.new < steps_left self.old }
+    {
+        if self.depth == 0 && self.operands.lacks_key(reads) {
+            self.fresh = false;
+            return;
+        }
+        self.open_level(reads);
+    }
+
+    /// Chooses the label that is fixed next.
+    fn open_level<W: Ledger>(&mut self, reads: &mut Steps<W>)
         requires kept { IsKept O.depth_of O.tuples self.old }
         requires fresh { self.old.fresh ≡ true }
         requires deeper { self.old.depth < length self.old.levels.items }
@@ -157,7 +174,8 @@ impl<O: Operand> Search<O> {
                 self.levels[last] = level;
                 self.values[usize::from(label)] = key;
                 let is_last = self.depth == self.levels.len();
-                self.fresh = self.operands.enter_next(last, is_last, level, reads);
+                self.operands.enter_next(last, is_last, level, reads);
+                self.fresh = true;
             }
         }
     }
@@ -183,18 +201,49 @@ fn choice<O: Operand, W: Ledger>(
     ensures telling { depth < told → result < told }
 {
     let end = if depth < told { told } else { levels.len() };
-    if depth + 1 < end {
-        for i in depth..end {
-            counts[i] = n_keys(tracks, depth, levels[i].label, reads);
-        }
-    }
-    let first = choose(&counts[depth..end], &ALLOWED[..end - depth]);
+    let n = counted(tracks, &levels[..end], depth, counts, reads);
+    let first = choose(&counts[depth..depth + n], &ALLOWED[..n]);
     depth + first.unwrap_or(0)
 }
 
-/// How many keys were tried where a label is opened at this depth: none of one that tells rows apart.
+/// Counts the keys of the labels from a level on, one after another, up to one that has a single key: how many were counted.
+/// An only label isn't counted.
+fn counted<O: Operand, W: Ledger>(
+    tracks: &[Track<O>],
+    levels: &[Level],
+    depth: usize,
+    counts: &mut [u64],
+    reads: &mut Steps<W>,
+) -> usize
+    requires roomy { AreRoomy depth tracks.now }
+    requires parts { AreParts O.depth_of O.tuples depth tracks.now }
+    requires depth { depth < length levels.now }
+    requires counts { length levels.now ≤ length counts.old }
+    ensures within { result ≤ length levels.now - depth }
+{
+    let n = levels.len() - depth;
+    if n == 1 {
+        return 0;
+    }
+    for i in 0..n {
+        let count = n_keys(tracks, depth, levels[depth + i].label, reads);
+        counts[depth + i] = count;
+        if count <= 1 {
+            return i + 1;
+        }
+    }
+    n
+}
+
+/// How many keys count as tried where a label is opened at this depth: fewer of one that tells rows apart.
 fn tries_opened(depth: usize, told: usize, tries: u64) -> u64 {
-    if depth < told { 0 } else { tries }
+    if depth < told { fewer(tries) } else { tries }
+}
+
+/// What counts as tried once a row is found, or another label is opened. As the next rows are likely to stand as far apart,
+/// it isn't begun anew.
+fn fewer(tries: u64) -> u64 {
+    (tries - tries / 4).saturating_sub(1)
 }
 
 /// One more, where the label that goes on is the last one that tells rows apart.
@@ -231,8 +280,8 @@ pub fn leave_out<O: Operand, W: Ledger>(
     requires { IsKept O.depth_of O.tuples search.old }
     ensures kept { IsKept O.depth_of O.tuples search.new }
     ensures same { IsSameQuery O.tuples search.old search.new }
-    ensures none { result ≡ false → (length (rows_to_come O.tuples search.old) < n) × (rows_to_come O.tuples search.new ≡ []) }
-    ensures some { IsTrue result → (left : List Row) × (length left ≡ n) × IsPermutation (rows_to_come O.tuples search.old) (left ++ rows_to_come O.tuples search.new) }
+    ensures none { result ≡ false → EndsBefore O.tuples n search.old search.new }
+    ensures some { IsTrue result → LeavesOut O.tuples n search.old search.new }
 {
     for _row in 0..n {
         if !search.next_row(reads) {

@@ -1,8 +1,8 @@
 //! The next key of a label at which what is left may have a solution.
 ghost use Rattle.std.specs.Prelude.{◌≡◌, ◌<◌, ◌≤◌, IfSome, IsTrue, length, MatchOption};
 ghost use Rattle.bag_list.specs.Levels.{lesser_of};
-ghost use Rattle.bag_list.specs.Operands.{AreReady, IsKeptTo, IsOpenAt};
-ghost use Rattle.bag_list.specs.Through.{AllAdmitNext, IsStillToTry, NoneAtBefore, NoneBefore, NoneLeftBefore};
+ghost use Rattle.bag_list.specs.Operands.{AreReady, CanEnter, IsKeptTo, IsOpenAt};
+ghost use Rattle.bag_list.specs.Through.{AllAdmitNext, IsStillToTry, NoneAtBefore, NoneBefore, NoneLeftBefore, NoneRaisedBefore};
 
 use crate::level::{Level, after};
 use crate::operands::Operands;
@@ -26,8 +26,8 @@ pub struct Tested {
 }
 
 impl<O: Operand> Operands<O> {
-    /// The next key of the label of a level, or one above it where what is left has no solution before that. It is raised
-    /// through each label that is tested.
+    /// A key of the label of a level that is still to be tried: the next one, or one above it before which what is left has
+    /// no solution.
     pub fn next_left<W: Ledger>(
         &mut self,
         levels: &[Level],
@@ -40,13 +40,36 @@ impl<O: Operand> Operands<O> {
         requires join { IsOpenAt O.depth_of O.tuples levels.now depth self.old }
         ensures kept { IsKeptTo O.depth_of O.tuples depth self.old self.new }
         ensures from { IsStillToTry levels.now depth result }
-        ensures admitted { tested.first ≡ length levels.now → AllAdmitNext O.tuples self.old levels.now depth result }
+        ensures admitted { AllAdmitNext O.tuples self.old levels.now depth result }
         ensures least { NoneLeftBefore O.tuples self.old levels.now depth result }
     {
-        let level = &levels[depth];
-        let label = level.label;
-        let from = level.from?;
-        let mut next = self.joins[depth].next_key(from, reads)?;
+        let from = levels[depth].from?;
+        let next = self.joins[depth].next_key(from, reads)?;
+        if tested.first >= levels.len() {
+            return Some(next);
+        }
+        let raised = self.raised(levels, depth, tested, next, reads)?;
+        self.joins[depth].next_key(raised, reads)
+    }
+
+    /// A key of a level's label, or one above it where what is left has no solution before that. It is raised through each
+    /// label that is tested.
+    fn raised<W: Ledger>(
+        &mut self,
+        levels: &[Level],
+        depth: usize,
+        tested: Tested,
+        key: Id,
+        reads: &mut Steps<W>,
+    ) -> Option<Id>
+        requires within { (depth < length levels.now) × (tested.first ≤ length levels.now) }
+        requires ready { AreReady O.depth_of O.tuples depth self.old }
+        ensures kept { IsKeptTo O.depth_of O.tuples depth self.old self.new }
+        ensures from { IfSome result (λ r. key.0 ≤ r.0) }
+        ensures least { NoneRaisedBefore O.tuples self.old levels.now depth key.0 result }
+    {
+        let label = levels[depth].label;
+        let mut next = key;
         for i in tested.first..levels.len() {
             let other = &levels[i];
             if n_keys(&self.tracks, depth, other.label, reads) <= tested.most {
@@ -95,22 +118,21 @@ impl<O: Operand> Operands<O> {
         best
     }
 
-    /// The least key, where the label of a level is fixed at its key.
+    /// The least key, where the label of a level is fixed at its key, which all patterns admit.
     fn least_at<W: Ledger>(
         &mut self,
         sought: Sought,
         level: Level,
         reads: &mut Steps<W>,
     ) -> Option<Id>
-        requires { AreReady O.depth_of O.tuples sought.depth self.old }
+        requires ready { AreReady O.depth_of O.tuples sought.depth self.old }
+        requires admitted { CanEnter O.tuples sought.depth level self.old }
         ensures kept { IsKeptTo O.depth_of O.tuples sought.depth self.old self.new }
         ensures other { self.new.other ≡ self.old.other }
         ensures from { IfSome result (λ r. sought.from.0 ≤ r.0) }
         ensures least { NoneAtBefore O.tuples self.old level sought result }
     {
-        if !self.enter(sought.depth, level, reads) {
-            return None;
-        }
+        self.enter(sought.depth, level, reads);
         self.behind
             .gather(&self.tracks, sought.depth + 1, sought.label);
         self.behind.next_key(sought.from, reads)

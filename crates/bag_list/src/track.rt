@@ -1,12 +1,12 @@
 //! A pattern as it is while labels are fixed.
-ghost use Rattle.std.specs.Prelude.{◌≡◌, ◌+◌, ◌<◌, ◌≤◌, ℕ, List, true, false, IsTrue, IsNone, IfSome, IfOk, length, take, slice_index_or, MatchOption};
+ghost use Rattle.std.specs.Prelude.{◌≡◌, ◌+◌, ◌<◌, ◌≤◌, ℕ, List, false, IsTrue, IfOk, length, slice_index_or};
 ghost use Rattle.bag_list.specs.declared.level.Level.{Level};
-ghost use Rattle.bag_list.specs.Tracks.{AdmitsAt, AllAdmitAt, AllAreStarts, AreFixed, AreParts, AreRoomy, AreSameTo, AreTracks, HasEmpty, IsFixed, IsPart, IsSameTo, rests, rests_of};
+ghost use Rattle.bag_list.specs.Tracks.{AdmitsAt, AdmitsIn, AllAdmitAt, AllAreStarts, AllPartsAre, AreFixed, AreParts, AreRoomy, AreSameTo, AreTracks, HasEmpty, HaveStarts, IsFixed, IsFixedIn, IsPart, IsPartIn, IsSameTo, LacksKeyIn, SomeLacksKey};
 
 use crate::labels::Labels;
 use std::alloc::Global;
 use std::sync::ledger::Ledger;
-use trie_depth::{Id, Memory, Operand, Steps};
+use trie_depth::{Id, Mask, Memory, Operand, Steps};
 
 /// A pattern after its constants were fixed: the operand that is left, None where it is empty, and the labels of the
 /// operand's positions in order.
@@ -36,7 +36,7 @@ impl<O: Operand> Track<O> {
         requires { n ≤ 96 }
         ensures start { IfOk result (λ t. t.start ≡ start) }
         ensures room { IfOk result (λ t. length t.parts.items ≡ n + 1) }
-        ensures parts { IfOk result (λ t. (j : ℕ) (p : _) → j < n + 1 → slice_index_or t.parts.items j p ≡ start) }
+        ensures parts { IfOk result (λ t. AllPartsAre start (n + 1) t) }
     {
         let mut parts = Vec::new(alloc);
         for _level in 0..n + 1 {
@@ -45,71 +45,105 @@ impl<O: Operand> Track<O> {
         Ok(Track { start, parts })
     }
 
-    /// Fixes the label of a level at a key. False where nothing is left.
-    fn enter<W: Ledger>(&mut self, depth: usize, label: u8, key: Id, reads: &mut Steps<W>) -> bool
-        requires room { depth + 1 < length self.old.parts.items }
-        requires part { (p : _) → IsPart O.depth_of O.tuples (slice_index_or self.old.parts.items depth p) }
-        ensures same { IsSameTo depth self.old self.new }
-        ensures some { IsTrue result → (p : _) → IsFixed O.depth_of O.tuples label key.0 (slice_index_or self.old.parts.items depth p) (slice_index_or self.new.parts.items (depth + 1) p) }
-        ensures none { result ≡ false → ((p : _) → AdmitsAt O.tuples label (slice_index_or self.old.parts.items depth p) key.0) → ⊥ }
+    /// Whether a label that stands at two places has no key there, before a label is fixed.
+    fn lacks_key<W: Ledger>(&self, reads: &mut Steps<W>) -> bool
+        requires room { 0 < length self.now.parts.items }
+        requires part { IsPartIn O.depth_of O.tuples 0 self.now }
+        ensures { IsTrue result → LacksKeyIn O.tuples self.now }
     {
-        let part = self.parts[depth];
-        match fixed(part, label, key, reads) {
-            Some(next) => {
-                self.parts[depth + 1] = next;
-                true
+        let part = self.parts[0];
+        match part.labels.doubled() {
+            Some(label) => {
+                let mask = part.labels.mask(label);
+                part.op.seek(mask, Id(0), reads).is_none()
             }
             None => false,
         }
     }
+
+    /// Fixes the label of a level at a key that the pattern admits.
+    fn enter<W: Ledger>(&mut self, depth: usize, label: u8, key: Id, reads: &mut Steps<W>)
+        requires room { depth + 1 < length self.old.parts.items }
+        requires part { IsPartIn O.depth_of O.tuples depth self.old }
+        requires admitted { AdmitsIn O.tuples depth label self.old key.0 }
+        ensures same { IsSameTo depth self.old self.new }
+        ensures fixed { IsFixedIn O.depth_of O.tuples depth label key.0 self.old self.new }
+    {
+        let part = self.parts[depth];
+        self.parts[depth + 1] = fixed(part, label, key, reads);
+    }
 }
 
-/// What is left once a label is fixed at a key, if anything is.
-fn fixed<O: Operand, W: Ledger>(
-    part: Part<O>,
-    label: u8,
-    key: Id,
-    reads: &mut Steps<W>,
-) -> Option<Part<O>>
-    requires { IsPart O.depth_of O.tuples part }
-    ensures some { IfSome result (λ r. IsFixed O.depth_of O.tuples label key.0 part r) }
-    ensures none { IsNone result → AdmitsAt O.tuples label part key.0 → ⊥ }
+/// What is left once a label is fixed at a key that the pattern admits. Where no label is left, nothing is fixed: the one
+/// tuple of no key is left.
+fn fixed<O: Operand, W: Ledger>(part: Part<O>, label: u8, key: Id, reads: &mut Steps<W>) -> Part<O>
+    requires part { IsPart O.depth_of O.tuples part }
+    requires admitted { AdmitsAt O.tuples label part key.0 }
+    ensures { IsFixed O.depth_of O.tuples label key.0 part result }
 {
     let mask = part.labels.mask(label);
     if mask.0 == 0 {
-        return Some(part);
+        return part;
     }
-    let op = part.op.fix(mask, key, reads)?;
-    Some(Part {
-        op,
-        labels: part.labels.without(label),
-    })
+    let labels = part.labels.without(label);
+    if labels.is_none() {
+        return Part {
+            op: part.op,
+            labels,
+        };
+    }
+    match part.op.fix(mask, key, reads) {
+        Some(op) => Part { op, labels },
+        None => unreachable!(),
+    }
 }
 
-/// Fixes the label of a level at a key in every pattern. False where nothing is left of one.
+/// Fixes the label of a level in every pattern at a key that all admit.
 pub fn enter_all<O: Operand, W: Ledger>(
     tracks: &mut [Track<O>],
     depth: usize,
     label: u8,
     key: Id,
     reads: &mut Steps<W>,
-) -> bool
+)
     requires roomy { AreRoomy (depth + 1) tracks.old }
     requires parts { AreParts O.depth_of O.tuples depth tracks.old }
+    requires admitted { AllAdmitAt O.tuples tracks.old depth label key.0 }
     ensures same { AreSameTo depth tracks.old tracks.new }
-    ensures some { IsTrue result → AreFixed O.depth_of O.tuples depth label key.0 tracks.old tracks.new }
-    ensures none { result ≡ false → AllAdmitAt O.tuples tracks.old depth label key.0 → ⊥ }
+    ensures fixed { AreFixed O.depth_of O.tuples depth label key.0 tracks.old tracks.new }
 {
     for i in 0..tracks.len() {
         let track = &mut tracks[i];
-        if !track.enter(depth, label, key, reads) {
-            return false;
-        }
+        track.enter(depth, label, key, reads);
     }
-    true
 }
 
-/// The least number of keys that a pattern has at a label.
+/// Whether some pattern has a label at two places, and no key stands at both.
+pub fn lacks_key<O: Operand, W: Ledger>(tracks: &[Track<O>], reads: &mut Steps<W>) -> bool
+    requires roomy { AreRoomy 0 tracks.now }
+    requires parts { AreParts O.depth_of O.tuples 0 tracks.now }
+    ensures { IsTrue result → SomeLacksKey O.tuples tracks.now }
+{
+    for i in 0..tracks.len() {
+        let track = &tracks[i];
+        if track.lacks_key(reads) {
+            return true;
+        }
+    }
+    false
+}
+
+/// How many keys to reckon with, of those at one position of the label: a share, where the label stands at further ones, as
+/// few keys stand at all.
+fn reckoned(mask: Mask, count: u64) -> u64 {
+    if mask.0.is_power_of_two() {
+        count
+    } else {
+        count / 16
+    }
+}
+
+/// The least number of keys to reckon with that a pattern has at a label.
 pub fn n_keys<O: Operand, W: Ledger>(
     tracks: &[Track<O>],
     depth: usize,
@@ -125,7 +159,10 @@ pub fn n_keys<O: Operand, W: Ledger>(
         let part = track.parts[depth];
         let mask = part.labels.mask(label);
         if mask.0 > 0 {
-            least = least.min(part.op.key_count(mask, reads));
+            least = least.min(reckoned(mask, part.op.key_count(mask, reads)));
+        }
+        if least <= 1 {
+            return least;
         }
     }
     least
@@ -140,7 +177,7 @@ pub fn tracks_of<O: Operand>(
     requires few { n ≤ 96 }
     requires starts { AllAreStarts O.depth_of O.tuples n starts.now }
     ensures tracks { IfOk result (λ r. (fs : List Level) → AreTracks O.depth_of O.tuples n 1 fs r.0.items) }
-    ensures whole { IfOk result (λ r. IsTrue r.1 → rests O.tuples r.0.items ≡ rests_of O.tuples starts.now) }
+    ensures whole { IfOk result (λ r. IsTrue r.1 → HaveStarts O.tuples starts.now r.0.items) }
     ensures empty { IfOk result (λ r. r.1 ≡ false → HasEmpty starts.now) }
 {
     let mut tracks = Vec::new(alloc);

@@ -6,6 +6,8 @@ mod answers;
 #[cfg(test)]
 mod common_keys;
 #[cfg(test)]
+mod distinct_rows;
+#[cfg(test)]
 mod listed_rows;
 #[cfg(test)]
 mod plans;

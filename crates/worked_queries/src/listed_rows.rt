@@ -70,10 +70,10 @@ fn columns_of(alloc: Global, labels: &[Option<u8>]) -> Result<Columns, Memory>
 
 /// How rows are chosen.
 #[derive(Clone, Copy)]
-struct Choice {
-    distinct: bool,
-    limit: Option<u64>,
-    offset: u64,
+pub struct Choice {
+    pub distinct: bool,
+    pub limit: Option<u64>,
+    pub offset: u64,
 }
 
 const ALL: Choice = Choice {
@@ -111,7 +111,7 @@ fn values<W: Ledger>(
     let mut lister = Lister::make(alloc, starts, query)?;
     let mut reads = Steps::<W>::new(blank);
     let mut values = Vec::new(alloc);
-    for _row in 0..20 {
+    for _row in 0..100 {
         if lister.next(&mut reads).is_none() {
             break;
         }
@@ -120,8 +120,8 @@ fn values<W: Ledger>(
     Ok(values)
 }
 
-/// The values of the first rows, row by row: at most twenty rows.
-fn listed(
+/// The values of the first rows, row by row: at most a hundred rows.
+pub fn listed(
     alloc: Global,
     list: &[Trip],
     labels: &[(u8, u8, u8)],
@@ -232,5 +232,33 @@ fn patterns_without_a_common_label(rt: HostRuntime) -> Result<(), Fail> {
     };
     let row = listed(alloc, &TWO, &patterns, 30, &[Some(27)], &first)?;
     assert_eq!(rt; row.as_slice(), [Some(0)].as_slice());
+    Ok(())
+}
+
+/// None of many rows, at once: no triple's subject is its object.
+#[test]
+fn patterns_beside_one_without_a_key(rt: HostRuntime) -> Result<(), Fail> {
+    let alloc = rt.alloc();
+    let patterns = [
+        (0, 1, 2),
+        (3, 4, 5),
+        (6, 7, 8),
+        (9, 10, 11),
+        (12, 13, 14),
+        (15, 16, 17),
+        (18, 19, 20),
+        (21, 22, 23),
+        (24, 25, 26),
+        (27, 28, 27),
+    ];
+    let none = listed(alloc, &TWO, &patterns, 29, &[Some(0)], &ALL)?;
+    assert_eq!(rt; none.len(), 0);
+    let distinct = Choice {
+        distinct: true,
+        limit: None,
+        offset: 0,
+    };
+    let none_distinct = listed(alloc, &TWO, &patterns, 29, &[Some(2), Some(5)], &distinct)?;
+    assert_eq!(rt; none_distinct.len(), 0);
     Ok(())
 }

@@ -1,8 +1,16 @@
-use Rattle.std.proofs.Common.{◌≡◌, true, false}
-use Rattle.bag_list.proofs.TrackLemmas.{fixed-slice}
+use Rattle.std.proofs.Common.{◌≡◌, true, false, sym, ◌∙◌, arith}
+use Rattle.bag_list.proofs.PartSets.{long-there}
+use Rattle.bag_list.proofs.TrackLemmas.{fixed-last, fixed-slice}
 use Rattle.bag_list.proofs.track.fixed.Goals as goal
 
-pub returns-clause-some : goal.returns-clause-some
-returns-clause-some g c =
-    fixed-slice g.O.Operand.depth_of g.O.Operand.tuples g.met.O.Operand.deep c.args.label c.args.key.0 c.mask-mask.result.0 c.args.part c.in_ok-op.op c.without.result c.requires
-    c.mask-mask.ensures c.without.ensures c.in_ok-op.ensures.some (λ e. let t : true ≡ false = c.in_ok-op.ensures.none.1 e in cc) c.in_ok-op.ensures.depth
+pub returns-then-is_none : goal.returns-then-is_none
+returns-then-is_none g c =
+    fixed-last g.O.Operand.depth_of g.O.Operand.tuples g.met.O.Operand.deep c.args.label c.args.key.0 c.args.part c.args.part.op c.without-labels.result c.requires.part
+    c.without-labels.ensures (c.is_none.ensures.0 c.if-is_none.true) c.requires.admitted
+
+pub returns : goal.returns
+returns g c =
+    fixed-slice g.O.Operand.depth_of g.O.Operand.tuples g.met.O.Operand.deep c.args.label c.args.key.0 c.mask-mask.result.0 c.args.part c.in-Some.op c.without-labels.result c.requires.part
+    c.mask-mask.ensures (omega (arith, c.if-mask-eq0.false)) c.without-labels.ensures
+    (long-there _ (λ e. let t : true ≡ false = sym (c.is_none.ensures.1 e) ∙ c.if-is_none.false in cc))
+    c.in-Some.ensures.some (λ e. let t : true ≡ false = c.in-Some.ensures.none.1 e in cc) c.in-Some.ensures.depth

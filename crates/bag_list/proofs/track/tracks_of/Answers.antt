@@ -11,8 +11,8 @@ loop-i-preserved g c =
     let s = c.index-starts-i.result in
     let start = subst (IsStart depth_of tuples c.args.n) (sym c.index-starts-i.is) (c.requires.starts c.loop-i.i s c.loop-i-test.true) in
     let is = c.in_ok-push.ensures.items in (
-      ap (rests tuples) is ∙ started_more depth_of tuples c.args.n s c.in-Some.op _ c.in-Some.is refl start c.args.starts.now c.loop-i.i c.loop-i.tracks.items c.in_ok-of.field-0 c.loop-i-test.true c.index-starts-i.is c.in_ok-of.ensures.start c.loop-i.invariant.0,
+      ap (rests tuples) is ∙ started_more depth_of tuples c.args.n s c.in-Some.op _ c.in-Some.is refl start g.met.O.Operand.deep c.args.starts.now c.loop-i.i c.loop-i.tracks.items c.in_ok-of.field-0 c.loop-i-test.true c.index-starts-i.is c.in_ok-of.ensures.start c.loop-i.invariant.0,
       λ fs. subst (AreTracks depth_of tuples c.args.n 1 fs) (sym is)
           (each_more (IsTrack depth_of tuples c.args.n 1 fs) c.loop-i.tracks.items c.in_ok-of.field-0 (c.loop-i.invariant.1 fs)
-          (start-track depth_of tuples c.args.n s c.in-Some.op _ c.in-Some.is refl start c.in_ok-of.field-0 c.in_ok-of.ensures.start c.in_ok-of.ensures.room c.in_ok-of.ensures.parts fs)),
+          (start-track depth_of tuples c.args.n s c.in-Some.op _ c.in-Some.is refl start g.met.O.Operand.deep c.in_ok-of.field-0 c.in_ok-of.ensures.start c.in_ok-of.ensures.room c.in_ok-of.ensures.parts fs)),
     )

@@ -4,11 +4,6 @@ use Rattle.bag_list.proofs.JoinLemmas.{join-least}
 use Rattle.bag_list.proofs.ThroughLemmas.{holding-admits, holding-fixed}
 use Rattle.bag_list.proofs.operands.Operands.least_at.Goals as goal
 
-pub returns-then-not-enter-clause-least : goal.returns-then-not-enter-clause-least
-returns-then-not-enter-clause-least g c n k s here le =
-    c.enter.ensures.none c.if-not-enter.true
-    (holding-admits g.O.Operand.depth_of g.O.Operand.tuples g.met.O.Operand.deep c.args.self.now.tracks.items c.args.sought.depth s.solution c.args.level.label c.args.level.key.0 c.requires.parts s.holds here)
-
 pub returns-clause-least : goal.returns-clause-least
 returns-clause-least g c n k s here le =
     let depth_of = g.O.Operand.depth_of in
@@ -18,7 +13,7 @@ returns-clause-least g c n k s here le =
     let depth = c.args.sought.depth in
     let label = c.args.sought.label in
     let same = c.enter.ensures.kept.same.number in
-    let fixed = c.enter.ensures.some c.if-not-enter.false in
+    let fixed = c.enter.ensures.entered in
     let join = subst (λ ts. IsJoin depth_of tuples ts (depth + 1) label c.gather.new.self) c.deref.ensures.value c.gather.ensures.join in
     (join-least depth_of tuples now (depth + 1) label c.gather.new.self join c.args.sought.from.0 c.next_key.result c.next_key.ensures).least k le
     (holding-admits depth_of tuples g.met.O.Operand.deep now (depth + 1) s.solution label k (λ i t p lt. (fixed i t p (omega (arith, lt, same))).part)

@@ -1,90 +1,106 @@
-use Rattle.std.proofs.Common.{◌≤◌, None, IfSome, slice_index_or, refl, sym, ◌∙◌, ap, subst, arith}
+use Rattle.std.proofs.Common.{◌≤◌, None, IfSome, slice_index_or, sym, ◌∙◌, ap, subst, arith}
 use Rattle.std.proofs.lemmas.List.{get_or_default}
 use Rattle.bag_list.specs.declared.level.Level.{Level}
 use Rattle.bag_list.specs.Joins.{IsJoin}
 use Rattle.bag_list.specs.Levels.{from_of}
-use Rattle.bag_list.specs.Operands.{AreReady}
-use Rattle.bag_list.specs.Tracks.{AreParts}
+use Rattle.bag_list.specs.Tracks.{AllAdmitAt}
 use Rattle.bag_list.proofs.JoinLemmas.{join-least}
-use Rattle.bag_list.proofs.ThroughLemmas.{IsRaised, IsReached, kept-twice, level-at, next-raised, next-reached, raised-more, raised-reached}
-use Rattle.bag_list.proofs.operands.Operands.next_left.Goals.{then-n_keys-tested+in_ok-next-2, else-n_keys-tested}
+use Rattle.bag_list.proofs.ThroughLemmas.{IsReached, level-at, next-admitted, next-reached}
 use Rattle.bag_list.proofs.operands.Operands.next_left.Goals as goal
 
 abbrev no_level : Level
 no_level = record { label = 0; key = record { 0 = 0 }; from = None }
 
-pub returns-in_err-next-clause-least : goal.returns-in_err-next-clause-least
-returns-in_err-next-clause-least g c n k f below s le =
-    let tracks = c.args.self.now.tracks.items in
-    let level = slice_index_or c.args.levels.now c.args.depth no_level in
-    let join = subst (IsJoin g.O.Operand.depth_of g.O.Operand.tuples tracks c.args.depth level.label) (sym c.index.ensures) (c.requires.join no_level c.index.result.now) in
-    subst (λ b. IsReached b k) (c.in_err-next.was ∙ sym c.from_residual-in_err-next.ensures)
-    (next-reached g.O.Operand.depth_of g.O.Operand.tuples g.met.O.Operand.deep c.args.levels.now tracks c.args.depth c.args.tested.first c.requires.ready.parts level (get_or_default c.args.levels.now c.args.depth no_level level c.requires.within.0) c.requires.within.0
-    c.in_ok-from.from.0 (ap from_of c.in_ok-from.was) c.next_key.result
-    (join-least g.O.Operand.depth_of g.O.Operand.tuples tracks c.args.depth level.label c.index.result.now join _ c.next_key.result c.next_key.ensures) n k f s le)
-
-pub loop-i-init : goal.loop-i-init
-loop-i-init g c =
-    let tracks = c.args.self.now.tracks.items in
-    let level = slice_index_or c.args.levels.now c.args.depth no_level in
-    let join = subst (IsJoin g.O.Operand.depth_of g.O.Operand.tuples tracks c.args.depth level.label) (sym c.index.ensures) (c.requires.join no_level c.index.result.now) in
-    record {
-      raised = next-raised g.O.Operand.depth_of g.O.Operand.tuples g.met.O.Operand.deep c.args.levels.now tracks c.args.depth c.args.tested.first c.requires.ready.parts level (get_or_default c.args.levels.now c.args.depth no_level level c.requires.within.0) c.requires.within.0
-          c.in_ok-from.from.0 (ap from_of c.in_ok-from.was) c.next_key.result
-          (join-least g.O.Operand.depth_of g.O.Operand.tuples tracks c.args.depth level.label c.index.result.now join _ c.next_key.result c.next_key.ensures) c.in_ok-next.next c.in_ok-next.was;
-      joins = refl;
-      ready = c.requires.ready;
-    }
-
-pub returns-in_err-next-2-clause-least : goal.returns-in_err-next-2-clause-least
-returns-in_err-next-2-clause-least g c n k f below s le =
-    let level = slice_index_or c.args.levels.now c.args.depth no_level in
-    subst (λ b. IsReached b k) (c.in_err-next-2.was ∙ sym c.from_residual-in_err-next-2.ensures)
-    (raised-reached g.O.Operand.tuples c.args.levels.now c.args.self.now.tracks.items c.loop-i.self.tracks.items c.args.depth c.args.tested.first c.loop-i.next.0 c.loop-i.invariant.raised
-    level.label (slice_index_or c.args.levels.now c.loop-i.i no_level).label
-    (λ h. ap (λ x. x.label) (level-at c.args.levels.now c.args.depth level (get_or_default c.args.levels.now c.args.depth no_level level c.requires.within.0) c.requires.within.0 h))
-    (λ m listed. listed c.loop-i.i no_level (omega arith))
-    c.least_through.result c.least_through.ensures.least n k f below s le)
-
-pub returns-in_err-next-2-clause-kept : goal.returns-in_err-next-2-clause-kept
-returns-in_err-next-2-clause-kept g c =
-    kept-twice g.O.Operand.depth_of g.O.Operand.tuples c.args.depth c.args.self.now c.loop-i.self c.least_through.new.self c.loop-i.invariant.raised.same c.loop-i.invariant.joins c.least_through.ensures.kept
-
-pub loop-i-preserved : goal.loop-i-preserved
-loop-i-preserved g c =
-    let tuples = g.O.Operand.tuples in
-    let levels = c.args.levels.now in
-    let old = c.args.self.now.tracks.items in
-    let depth = c.args.depth in
-    let first = c.args.tested.first in
-    let level = slice_index_or levels depth no_level in
-    elim c.if-n_keys-tested.branch [
-      | then-n_keys-tested+in_ok-next-2 w ↦ record {
-        raised =
-            subst (λ ts. IsRaised tuples levels old ts.tracks.items depth first c.if-n_keys-tested.next.0) (sym w.self-is)
-            (subst (λ x. IsRaised tuples levels old w.least_through.new.self.tracks.items depth first x.0) (sym w.next-is)
-            (raised-more tuples levels old c.loop-i.self.tracks.items depth first c.loop-i.next.0 c.loop-i.invariant.raised
-            level.label (slice_index_or levels c.loop-i.i no_level).label
-            (λ h. ap (λ x. x.label) (level-at levels depth level (get_or_default levels depth no_level level c.requires.within.0) c.requires.within.0 h))
-            (λ m listed. listed c.loop-i.i no_level (omega arith))
-            w.least_through.result w.least_through.ensures.least _ w.least_through.new.self.tracks.items w.in_ok-next-2.was
-            (subst (λ b. IfSome b (λ r. c.loop-i.next.0 ≤ r.0)) w.in_ok-next-2.was w.least_through.ensures.from)
-            w.least_through.ensures.kept.same (let i = c.loop-i.auto.i in let t = c.loop-i-test.true in omega (arith, i, t))));
-        joins = ap (λ x. x.joins) w.self-is ∙ w.least_through.ensures.kept.joins ∙ c.loop-i.invariant.joins;
-        ready = subst (AreReady g.O.Operand.depth_of tuples depth) (sym w.self-is) w.least_through.ensures.kept.ready;
-      }
-      | else-n_keys-tested w ↦ record {
-        raised =
-            subst (λ ts. IsRaised tuples levels old ts.tracks.items depth first c.if-n_keys-tested.next.0) (sym w.self-is)
-            (subst (λ x. IsRaised tuples levels old c.loop-i.self.tracks.items depth first x.0) (sym w.next-is) c.loop-i.invariant.raised);
-        joins = ap (λ x. x.joins) w.self-is ∙ c.loop-i.invariant.joins;
-        ready = subst (AreReady g.O.Operand.depth_of tuples depth) (sym w.self-is) c.loop-i.invariant.ready;
-      }
-    ]
-
 pub next_key-requires : goal.next_key-requires
 next_key-requires g c =
     (subst (IsJoin g.O.Operand.depth_of g.O.Operand.tuples c.args.self.now.tracks.items c.args.depth (slice_index_or c.args.levels.now c.args.depth no_level).label) (sym c.index.ensures) (c.requires.join no_level c.index.result.now)).joinable
 
-pub n_keys-requires-clause-parts : goal.n_keys-requires-clause-parts
-n_keys-requires-clause-parts g c = subst (AreParts g.O.Operand.depth_of g.O.Operand.tuples c.args.depth) (sym c.deref.ensures.value) c.loop-i.invariant.ready.parts
+pub returns-in_err-next-clause-least : goal.returns-in_err-next-clause-least
+returns-in_err-next-clause-least g c n k f below s le =
+    let levels = c.args.levels.now in
+    let depth = c.args.depth in
+    let tracks = c.args.self.now.tracks.items in
+    let level = slice_index_or levels depth no_level in
+    let is = get_or_default levels depth no_level level c.requires.within.0 in
+    let join = subst (IsJoin g.O.Operand.depth_of g.O.Operand.tuples tracks depth level.label) (sym c.index.ensures) (c.requires.join no_level c.index.result.now) in
+    let low = ap (λ h. from_of h.from) (level-at levels depth level is c.requires.within.0 f) in
+    let at_from = ap from_of c.in_ok-from.was in
+    subst (λ b. IsReached b k) (c.in_err-next.was ∙ sym c.from_residual-in_err-next.ensures)
+    (next-reached g.O.Operand.depth_of g.O.Operand.tuples g.met.O.Operand.deep levels tracks depth c.requires.ready.parts level is c.requires.within.0 c.in_ok-from.from.0 c.next_key.result
+    (join-least g.O.Operand.depth_of g.O.Operand.tuples tracks depth level.label c.index.result.now join _ c.next_key.result c.next_key.ensures) n k f s (omega (arith, le, low, at_from)))
+
+pub returns-then-tested-levels-clause-admitted : goal.returns-then-tested-levels-clause-admitted
+returns-then-tested-levels-clause-admitted g c f =
+    let levels = c.args.levels.now in
+    let depth = c.args.depth in
+    let tracks = c.args.self.now.tracks.items in
+    let level = slice_index_or levels depth no_level in
+    let is = get_or_default levels depth no_level level c.requires.within.0 in
+    let join = subst (IsJoin g.O.Operand.depth_of g.O.Operand.tuples tracks depth level.label) (sym c.index.ensures) (c.requires.join no_level c.index.result.now) in
+    subst (λ b. IfSome b (λ r. AllAdmitAt g.O.Operand.tuples tracks depth (slice_index_or levels depth f).label r.0)) c.in_ok-next.was
+    (next-admitted g.O.Operand.depth_of g.O.Operand.tuples g.met.O.Operand.deep levels tracks depth c.requires.ready.parts level is c.requires.within.0 c.in_ok-from.from.0 c.next_key.result
+    (join-least g.O.Operand.depth_of g.O.Operand.tuples tracks depth level.label c.index.result.now join _ c.next_key.result c.next_key.ensures) f)
+
+pub returns-then-tested-levels-clause-least : goal.returns-then-tested-levels-clause-least
+returns-then-tested-levels-clause-least g c n k f below s le =
+    let levels = c.args.levels.now in
+    let depth = c.args.depth in
+    let tracks = c.args.self.now.tracks.items in
+    let level = slice_index_or levels depth no_level in
+    let is = get_or_default levels depth no_level level c.requires.within.0 in
+    let join = subst (IsJoin g.O.Operand.depth_of g.O.Operand.tuples tracks depth level.label) (sym c.index.ensures) (c.requires.join no_level c.index.result.now) in
+    let low = ap (λ h. from_of h.from) (level-at levels depth level is c.requires.within.0 f) in
+    let at_from = ap from_of c.in_ok-from.was in
+    subst (λ b. IsReached b k) c.in_ok-next.was
+    (next-reached g.O.Operand.depth_of g.O.Operand.tuples g.met.O.Operand.deep levels tracks depth c.requires.ready.parts level is c.requires.within.0 c.in_ok-from.from.0 c.next_key.result
+    (join-least g.O.Operand.depth_of g.O.Operand.tuples tracks depth level.label c.index.result.now join _ c.next_key.result c.next_key.ensures) n k f s (omega (arith, le, low, at_from)))
+
+pub returns-in_err-raised-clause-least : goal.returns-in_err-raised-clause-least
+returns-in_err-raised-clause-least g c n k f below s le =
+    let levels = c.args.levels.now in
+    let depth = c.args.depth in
+    let tracks = c.args.self.now.tracks.items in
+    let level = slice_index_or levels depth no_level in
+    let is = get_or_default levels depth no_level level c.requires.within.0 in
+    let join = subst (IsJoin g.O.Operand.depth_of g.O.Operand.tuples tracks depth level.label) (sym c.index.ensures) (c.requires.join no_level c.index.result.now) in
+    let low = ap (λ h. from_of h.from) (level-at levels depth level is c.requires.within.0 f) in
+    let at_from = ap from_of c.in_ok-from.was in
+    let next : c.in_ok-next.next.0 ≤ k = subst (λ b. IsReached b k) c.in_ok-next.was
+    (next-reached g.O.Operand.depth_of g.O.Operand.tuples g.met.O.Operand.deep levels tracks depth c.requires.ready.parts level is c.requires.within.0 c.in_ok-from.from.0 c.next_key.result
+    (join-least g.O.Operand.depth_of g.O.Operand.tuples tracks depth level.label c.index.result.now join _ c.next_key.result c.next_key.ensures) n k f s (omega (arith, le, low, at_from))) in
+    subst (λ b. IsReached b k) (c.in_err-raised.was ∙ sym c.from_residual-in_err-raised.ensures) (c.raised.ensures.least n k f below s next)
+
+pub next_key-requires-2 : goal.next_key-requires-2
+next_key-requires-2 g c =
+    let tracks = c.args.self.now.tracks.items in
+    let label = (slice_index_or c.args.levels.now c.args.depth no_level).label in
+    (subst (IsJoin g.O.Operand.depth_of g.O.Operand.tuples tracks c.args.depth label) (sym (c.index-2.ensures ∙ ap (λ js. slice_index_or js.items c.args.depth c.index-2.result.now) c.raised.ensures.kept.joins)) (c.requires.join no_level c.index-2.result.now)).joinable
+
+pub returns-clause-admitted : goal.returns-clause-admitted
+returns-clause-admitted g c f =
+    let levels = c.args.levels.now in
+    let depth = c.args.depth in
+    let tracks = c.args.self.now.tracks.items in
+    let level = slice_index_or levels depth no_level in
+    let is = get_or_default levels depth no_level level c.requires.within.0 in
+    let join = subst (IsJoin g.O.Operand.depth_of g.O.Operand.tuples tracks depth level.label) (sym (c.index-2.ensures ∙ ap (λ js. slice_index_or js.items depth c.index-2.result.now) c.raised.ensures.kept.joins)) (c.requires.join no_level c.index-2.result.now) in
+    next-admitted g.O.Operand.depth_of g.O.Operand.tuples g.met.O.Operand.deep levels tracks depth c.requires.ready.parts level is c.requires.within.0 c.in_ok-raised.raised.0 c.next_key-2.result
+    (join-least g.O.Operand.depth_of g.O.Operand.tuples tracks depth level.label c.index-2.result.now join _ c.next_key-2.result c.next_key-2.ensures) f
+
+pub returns-clause-least : goal.returns-clause-least
+returns-clause-least g c n k f below s le =
+    let levels = c.args.levels.now in
+    let depth = c.args.depth in
+    let tracks = c.args.self.now.tracks.items in
+    let level = slice_index_or levels depth no_level in
+    let is = get_or_default levels depth no_level level c.requires.within.0 in
+    let first = subst (IsJoin g.O.Operand.depth_of g.O.Operand.tuples tracks depth level.label) (sym c.index.ensures) (c.requires.join no_level c.index.result.now) in
+    let join = subst (IsJoin g.O.Operand.depth_of g.O.Operand.tuples tracks depth level.label) (sym (c.index-2.ensures ∙ ap (λ js. slice_index_or js.items depth c.index-2.result.now) c.raised.ensures.kept.joins)) (c.requires.join no_level c.index-2.result.now) in
+    let low = ap (λ h. from_of h.from) (level-at levels depth level is c.requires.within.0 f) in
+    let at_from = ap from_of c.in_ok-from.was in
+    let next : c.in_ok-next.next.0 ≤ k = subst (λ b. IsReached b k) c.in_ok-next.was
+    (next-reached g.O.Operand.depth_of g.O.Operand.tuples g.met.O.Operand.deep levels tracks depth c.requires.ready.parts level is c.requires.within.0 c.in_ok-from.from.0 c.next_key.result
+    (join-least g.O.Operand.depth_of g.O.Operand.tuples tracks depth level.label c.index.result.now first _ c.next_key.result c.next_key.ensures) n k f s (omega (arith, le, low, at_from))) in
+    let up : c.in_ok-raised.raised.0 ≤ k = subst (λ b. IsReached b k) c.in_ok-raised.was (c.raised.ensures.least n k f below s next) in
+    next-reached g.O.Operand.depth_of g.O.Operand.tuples g.met.O.Operand.deep levels tracks depth c.requires.ready.parts level is c.requires.within.0 c.in_ok-raised.raised.0 c.next_key-2.result
+    (join-least g.O.Operand.depth_of g.O.Operand.tuples tracks depth level.label c.index-2.result.now join _ c.next_key-2.result c.next_key-2.ensures) n k f s up

@@ -1,5 +1,5 @@
 //! The rows of the tables as lines: how many slices each is, and its members.
-ghost use Rattle.std.specs.Prelude.{◌≡◌, ℕ, ◌<◌, ◌≤◌, ◌++◌, codes, decimal, None, IsSome, IsNone, IfSome, IfOk, OnOk};
+ghost use Rattle.std.specs.Prelude.{◌≡◌, ℕ, ◌<◌, ◌≤◌, ◌^◌, ◌++◌, codes, decimal, None, IsSome, IsNone, IfSome, IfOk, OnOk};
 ghost use Rattle.rdf_model.specs.Sorting.{in_order};
 ghost use Rattle.graph_shape.specs.GraphShapes.{depth_name, tabbed, row_line};
 ghost use Rattle.trie_context.specs.Rows.{row_of, set_of};
@@ -16,10 +16,11 @@ use tn_io::Text;
 use trie_context::Tables;
 use trie_depth::Memory;
 
-/// The least row of depth one or two that is not below `from`.
+/// The least row of depth one or two that is not below `from`. No row has a number from 2 to the 64 on.
 fn next_row(tables: &Tables, depth: usize, from: usize) -> Option<usize>
     requires low { 1 ≤ depth }
     requires high { depth ≤ 2 }
+    ensures numbers { (r : ℕ) → 2 ^ 64 ≤ r → row_of tables.now depth r ≡ None }
     ensures none { IsNone result → (r : ℕ) → from ≤ r → row_of tables.now depth r ≡ None }
     ensures there { IfSome result (λ r. IsSome (row_of tables.now depth r)) }
     ensures from { IfSome result (λ r. from ≤ r) }
@@ -105,9 +106,8 @@ pub(crate) fn add_row_lines(
             return Ok(());
         };
         lines.push(line_at(alloc, all, depth, row)?)?;
-        // A table of so many rows takes more memory than there is.
         if row == usize::MAX {
-            return Err(Memory);
+            return Ok(());
         }
         from = row + 1;
     }

@@ -11,7 +11,7 @@ use Rattle.query_tokens.proofs.Longest.{finds_tokens, finds_gaps}
 use Rattle.query_grammar.specs.Lexemes.{Lexeme, lexeme, one_before, behind_gap, lexed_up_to, lexed}
 use Rattle.query_forms.specs.Laws.{LexesAsProductions}
 use Rattle.query_forms.specs.Lexing.{IsLongest, IsSomeToken, IsLexed, end, next}
-use Rattle.query_forms.proofs.Apart.{one_kind}
+use Rattle.query_tokens.proofs.Apart.{one_kind}
 use Rattle.query_forms.proofs.Signed.{clash}
 
 no_length : (cs : List ℕ) → length cs ≡ 0 → cs ≡ []

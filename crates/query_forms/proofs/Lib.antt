@@ -1,4 +1,3 @@
-pub mod Apart
 pub mod Assembled
 pub mod Blocks
 pub mod Covered

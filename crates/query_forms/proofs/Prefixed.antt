@@ -16,7 +16,7 @@ use Rattle.query_grammar.specs.Signs.{Sign, Prefix, Select, Distinct, Reduced, W
 use Rattle.query_grammar.specs.Texts.{iri_text, is_sign, or_before, declared_here, declared, prefix_length, name_iri_by, name_iri}
 use Rattle.query_forms.specs.Laws.{Lacks, PrefixesAsProductions}
 use Rattle.query_forms.specs.Prologues.{Declaration, declaration, IsPrologue, nothing, next, StandsFor, without_backslashes, MeansName, iri, prefix, local}
-use Rattle.query_forms.proofs.Apart.{one_colon}
+use Rattle.query_tokens.proofs.Apart.{one_colon}
 use Rattle.query_forms.proofs.Meant.{mean_as_productions}
 
 abbrev Found : Type 0

@@ -4,13 +4,7 @@
 //! agree.
 #![tactic(auto)]
 
-ghost use Rattle.query_tokens.specs.Laws.{OneKind};
 ghost use Rattle.query_forms.specs.Laws.{LexesAsProductions, MeanAsProductions, TailsAsProductions, PrefixesAsProductions, NamesAsProductions, AllFormsAsProductions, QueriesAsProductions, AnswersAsProductions};
-
-/// No text is a token of two kinds.
-pub fn tokens_have_one_kind()
-    ensures { OneKind }
-{}
 
 /// The tokens that are found in a text are those of the productions.
 pub fn tokens_by_productions()

@@ -5,6 +5,14 @@ use Rattle.std.specs.Prelude.{◌≡◌, ℕ, ◌<◌, ◌≤◌, Bool, true, fa
 abbrev pub IsAllowed : List Bool → ℕ → Type 0
 IsAllowed allowed i = slice_index_or allowed i false ≡ true
 
+-- no allowed place has a lesser count
+abbrev pub IsLeast : List ℕ → List Bool → ℕ → Type 0
+IsLeast counts allowed r = (i : ℕ) → IsAllowed allowed i → slice_index counts r ≤ slice_index counts i
+
+-- each allowed place before it has a greater count
+abbrev pub IsBeforeEquals : List ℕ → List Bool → ℕ → Type 0
+IsBeforeEquals counts allowed r = (i : ℕ) → i < r → IsAllowed allowed i → slice_index counts r < slice_index counts i
+
 -- of two places the one with the lesser count, the first of equals
 abbrev pub lesser_of : List ℕ → Option ℕ → ℕ → ℕ
 lesser_of counts None i = i

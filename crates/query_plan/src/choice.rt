@@ -1,14 +1,14 @@
 //! The place with the least count, of those that are allowed.
-ghost use Rattle.std.specs.Prelude.{◌≡◌, ◌<◌, ◌≤◌, ◌↔◌, ℕ, IsNone, IfSome, IsTrue, length, slice_index, MatchOption};
-ghost use Rattle.query_plan.specs.Allowed.{IsAllowed, lesser_of};
+ghost use Rattle.std.specs.Prelude.{◌≡◌, ◌<◌, ℕ, IsNone, IfSome, length, MatchOption};
+ghost use Rattle.query_plan.specs.Allowed.{IsAllowed, IsLeast, IsBeforeEquals, lesser_of};
 
 /// The allowed place with the least count, the first of equals.
 pub fn choose(counts: &[u64], allowed: &[bool]) -> Option<usize>
     requires { length counts.now ≡ length allowed.now }
     ensures none { IsNone result → (i : ℕ) → IsAllowed allowed.now i → ⊥ }
     ensures allowed { IfSome result (λ r. IsAllowed allowed.now r) }
-    ensures least { IfSome result (λ r. (i : ℕ) → IsAllowed allowed.now i → slice_index counts.now r ≤ slice_index counts.now i) }
-    ensures first { IfSome result (λ r. (i : ℕ) → i < r → IsAllowed allowed.now i → slice_index counts.now r < slice_index counts.now i) }
+    ensures least { IfSome result (IsLeast counts.now allowed.now) }
+    ensures first { IfSome result (IsBeforeEquals counts.now allowed.now) }
 {
     let mut best = None;
     for i in 0..counts.len() {

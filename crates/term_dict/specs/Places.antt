@@ -1,9 +1,12 @@
 -- What the places of a dictionary hold.
-use Rattle.std.specs.Prelude.{◌≡◌, ℕ, zero, suc, ◌+◌, List, map, length, Option, None, Some, is_some, count_by, slice_get, refl}
+use Rattle.std.specs.Prelude.{◌≡◌, ◌⊎◌, ◌<◌, ℕ, zero, suc, ◌+◌, List, map, length, Option, None, Some, is_some, count_by, slice_get, refl}
 use Rattle.std.specs.Coded.{Coded, code_by, coded×, coded_ℕ, coded_list, coded_option}
 use Rattle.rdf_model.specs.Terms.{Term, Iri, Blank, Literal, Typed, Tagged}
 use Rattle.rdf_model.specs.Texts.{xsd_string}
 use Rattle.rdf_model.specs.Graph.{coded_term}
+use Rattle.hash_index.specs.Slots.{slot_at}
+use Rattle.rdf_term.specs.Seen.{lent_term}
+use Rattle.rdf_term.specs.declared.term.TermRef.{TermRef}
 use Rattle.term_dict.specs.declared.place.Place.{Place}
 use Rattle.term_dict.specs.declared.place.Place.TheVariants as place
 
@@ -26,6 +29,19 @@ abbrev pub slots_code : Coded Slots
 slots_code =
     code_by (List (Option Term) × (ℕ × ℕ)) (coded× (coded_list (coded_option coded_term)) (coded× coded_ℕ coded_ℕ)) (λ s. (s.slots, (s.next, s.capacity)))
     (λ p. record { slots = p.0; next = p.1.0; capacity = p.1.1 }) (λ _. refl)
+
+-- what is lent is the term of the slot, and nothing where it has none
+abbrev pub IsLentFrom : List (Option Term) → ℕ → Option TermRef → Type 0
+IsLentFrom slots number None = slot_at slots number ≡ None
+IsLentFrom slots number (Some term) = slot_at slots number ≡ Some (lent_term term)
+
+-- the number is that of a slot, or where each slot has a term, that of a new one
+abbrev pub IsUsedAgainFirst : List (Option Term) → ℕ → Type 0
+IsUsedAgainFirst slots number = (number < length slots) ⊎ ((number ≡ length slots) × (count_by is_some slots ≡ length slots))
+
+-- there are as many slots as there were, or one more where the number was that of a new one
+abbrev pub IsOneMoreAtMost : List (Option Term) → List (Option Term) → ℕ → Type 0
+IsOneMoreAtMost old new number = (length new ≡ length old) ⊎ ((length new ≡ length old + 1) × (number ≡ length old))
 
 -- from this number on so many places without a term each name the next, and the last names the number of places
 abbrev pub IsVacantList : List Place → ℕ → ℕ → Type 0

@@ -1,8 +1,7 @@
 //! Places for terms. A place that was given up is used again before a new one is made.
-ghost use Rattle.std.specs.Prelude.{◌≡◌, ◌⊎◌, ◌+◌, ◌<◌, ◌≤◌, [], None, Some, IsSome, MatchOption, OnOk, length, is_some, count_by};
+ghost use Rattle.std.specs.Prelude.{◌≡◌, ◌<◌, [], None, IsSome, OnOk, length, is_some, count_by};
 ghost use Rattle.hash_index.specs.Slots.{slot_at, Writes};
-ghost use Rattle.rdf_term.specs.Seen.{lent_term};
-ghost use Rattle.term_dict.specs.Places.{term_in};
+ghost use Rattle.term_dict.specs.Places.{term_in, IsLentFrom, IsUsedAgainFirst, IsOneMoreAtMost};
 
 use crate::place::Place;
 use rdf_term::TermRef;
@@ -52,7 +51,7 @@ impl Places {
 
     /// The term in a place, lent.
     pub(crate) fn lent(&self, number: usize) -> Option<TermRef<'_>>
-        ensures { MatchOption result (slot_at self.now.slots number ≡ None) (λ t. slot_at self.now.slots number ≡ Some (lent_term t)) }
+        ensures { IsLentFrom self.now.slots number result }
     {
         self.places.get(number)?.lent()
     }
@@ -73,7 +72,7 @@ impl Places {
     pub(crate) fn next(&self) -> usize
         ensures value { result ≡ self.now.next }
         ensures vacant { slot_at self.now.slots result ≡ None }
-        ensures least { (result < length self.now.slots) ⊎ ((result ≡ length self.now.slots) × (count_by is_some self.now.slots ≡ length self.now.slots)) }
+        ensures least { IsUsedAgainFirst self.now.slots result }
     {
         self.next
     }
@@ -83,7 +82,7 @@ impl Places {
         requires room { self.old.next < self.old.capacity }
         requires term { IsSome (term_in place) }
         ensures written { Writes self.old.slots self.new.slots self.old.next (term_in place) }
-        ensures len { (length self.new.slots ≡ length self.old.slots) ⊎ ((length self.new.slots ≡ length self.old.slots + 1) × (self.old.next ≡ length self.old.slots)) }
+        ensures len { IsOneMoreAtMost self.old.slots self.new.slots self.old.next }
     {
         let number = self.next;
         self.held += 1;

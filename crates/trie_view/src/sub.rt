@@ -3,7 +3,7 @@ ghost use Rattle.std.specs.Prelude.{◌≡◌, ◌≢◌, ◌↔◌, ℕ, ◌+�
 ghost use Rattle.std.specs.Ordering.{nat_cmp};
 ghost use Rattle.std.specs.FinSet as set;
 ghost use Rattle.hypertrie_model.specs.Sets.{empty};
-ghost use Rattle.hypertrie_model.specs.Slices.{keys, slice, slice_at_mask};
+ghost use Rattle.hypertrie_model.specs.Slices.{keys, slice_at_mask};
 ghost use Rattle.trie_depth.specs.Masks.{FitsDepth, lowest, n_positions};
 ghost use Rattle.trie_depth.specs.Operands.{Admits, IsIdTuple};
 ghost use Rattle.trie_depth.specs.Tuples.{trip_tuple};
@@ -30,7 +30,7 @@ pub struct Sub<'a> {
 }
 
 impl<'a> Sub<'a> {
-    ghost use Rattle.trie_view.specs.Subs.{sub_depth, sub_set};
+    ghost use Rattle.trie_view.specs.Subs.{sub_depth, sub_set, slice_by};
 
     /// The whole graph; an empty one has no slice.
     pub fn of(tables: &'a Tables, root: &'a Root) -> Option<Sub<'a>>
@@ -109,7 +109,7 @@ impl<'a> Sub<'a> {
         reads: &mut Steps<W>,
     ) -> Option<Place<'a>>
         requires within { position < sub_depth self }
-        ensures is { IsPlaceOf self.entry.tables.now (sub_depth self.entry - 1) (slice nat_cmp (sub_set self.entry) position key.0) result }
+        ensures is { IsPlaceOf self.entry.tables.now (sub_depth self.entry - 1) (slice_by self.entry position key.0) result }
         ensures ticks { reads.old + 1 ≤ reads.new }
         ensures few { reads.new ≤ reads.old + 2 }
     {
@@ -158,8 +158,8 @@ impl<'a> Sub<'a> {
     /// The slice by the key at a position.
     fn slice_at<W: Ledger>(self, position: usize, key: Id, reads: &mut Steps<W>) -> Option<Sub<'a>>
         requires within { position < sub_depth self }
-        ensures none { IsNone result ↔ (slice nat_cmp (sub_set self.entry) position key.0 ≡ empty nat_cmp) }
-        ensures some { IfSome result (λ s. sub_set s ≡ slice nat_cmp (sub_set self.entry) position key.0) }
+        ensures none { IsNone result ↔ (slice_by self.entry position key.0 ≡ empty nat_cmp) }
+        ensures some { IfSome result (λ s. sub_set s ≡ slice_by self.entry position key.0) }
         ensures depth { IfSome result (λ s. sub_depth s + 1 ≡ sub_depth self.entry) }
         ensures ticks { reads.old + 1 ≤ reads.new }
         ensures few { reads.new ≤ reads.old + 2 }
@@ -192,10 +192,10 @@ impl<'a> Sub<'a> {
         reads: &mut Steps<W>,
     ) -> Option<Id>
         requires within { position < sub_depth self }
-        ensures none { IsNone result → (k : ℕ) → from.0 ≤ k → slice nat_cmp (sub_set self.entry) position k ≡ empty nat_cmp }
-        ensures there { IfSome result (λ r. slice nat_cmp (sub_set self.entry) position r.0 ≢ empty nat_cmp) }
+        ensures none { IsNone result → (k : ℕ) → from.0 ≤ k → slice_by self.entry position k ≡ empty nat_cmp }
+        ensures there { IfSome result (λ r. slice_by self.entry position r.0 ≢ empty nat_cmp) }
         ensures from { IfSome result (λ r. from.0 ≤ r.0) }
-        ensures least { IfSome result (λ r. (k : ℕ) → from.0 ≤ k → k < r.0 → slice nat_cmp (sub_set self.entry) position k ≡ empty nat_cmp) }
+        ensures least { IfSome result (λ r. (k : ℕ) → from.0 ≤ k → k < r.0 → slice_by self.entry position k ≡ empty nat_cmp) }
         ensures ticks { reads.new ≡ reads.old + 1 }
     {
         reads.tick();

@@ -10,10 +10,12 @@ use Rattle.ntriples_model.specs.Characters.{digits, in_ranges}
 use Rattle.query_tokens.specs.Forms.{Form, nothing, one, other, ◌▸◌, ◌∣◌, many, maybe, each, word, HasForm, IsRepeated, none, next}
 use Rattle.query_tokens.specs.Front.{is_optional}
 use Rattle.query_tokens.specs.Laws.{OneKind}
-use Rattle.query_tokens.specs.Tokens.{Kind, Iri, PnameNs, PnameLn, Label, Var, LangTag, Integer, Decimal, Double, SignedInteger, SignedDecimal, SignedDouble, Str, Word, Mark, pn_prefix, pn_local, form_of, kinds, IsToken}
-use Rattle.query_tokens.proofs.Behind.{has_optional}
-use Rattle.query_forms.proofs.Blocks.{all_both}
-use Rattle.query_forms.proofs.Signed.{clash, same_number}
+use Rattle.query_tokens.specs.Tokens.{Kind, Iri, PnameNs, PnameLn, pn_prefix, pn_local, form_of, kinds, IsToken}
+use Rattle.query_tokens.proofs.Behind.{is_same, has_optional}
+use Rattle.query_tokens.proofs.KindNumbers.{number_of, one_to_one}
+
+clash : true ≡ false → ⊥
+clash e = let f : ⊥ = cc in f
 
 abbrev Ranges : Type 0
 Ranges = List (ℕ × ℕ)
@@ -130,7 +132,8 @@ abbrev Without : Ranges → List ℕ → Type 0
 Without rs text = AllByRecursion (λ c. in_ranges rs c ≡ true → ⊥) text
 
 without_both : (rs : Ranges) (front back : List ℕ) → Without rs front → Without rs back → Without rs (front ++ back)
-without_both rs front back h g = all_both (λ c. in_ranges rs c ≡ true → ⊥) front back h g
+without_both rs [] back h g = g
+without_both rs (c ∷ front) back h g = (h.0, without_both rs front back h.1 g)
 
 without : (rs : Ranges) (f : Form) (text : List ℕ) → never_in rs f ≡ true → HasForm f text → Without rs text
 without rs nothing text n h = subst (Without rs) (sym h) tt
@@ -252,36 +255,8 @@ names_apart text (front, end, e, is_front, is_end) (name, local, f, (first, colo
 
 -- All kinds
 
-abbrev number_of : Kind → ℕ
-number_of Iri = 0
-number_of PnameNs = 1
-number_of PnameLn = 2
-number_of Label = 3
-number_of Var = 4
-number_of LangTag = 5
-number_of Integer = 6
-number_of Decimal = 7
-number_of Double = 8
-number_of SignedInteger = 9
-number_of SignedDecimal = 10
-number_of SignedDouble = 11
-number_of Str = 12
-number_of Word = 13
-number_of Mark = 14
-
-kind_at : ℕ → Kind
-kind_at n =
-    cond (n == 0) Iri (cond (n == 1) PnameNs (cond (n == 2) PnameLn (cond (n == 3) Label (cond (n == 4) Var (cond (n == 5) LangTag
-    (cond (n == 6) Integer (cond (n == 7) Decimal (cond (n == 8) Double (cond (n == 9) SignedInteger (cond (n == 10) SignedDecimal
-    (cond (n == 11) SignedDouble (cond (n == 12) Str (cond (n == 13) Word Mark)))))))))))))
-
-numbered : (k : Kind) → kind_at (number_of k) ≡ k
-unfolding kind_at
-numbered Iri = refl
-numbered _ = refl
-
 same_kind : (j k : Kind) → (number_of j == number_of k) ≡ true → j ≡ k
-same_kind j k e = sym (numbered j) ∙ ap kind_at (same_number (number_of j) (number_of k) e) ∙ numbered k
+same_kind j k e = one_to_one j k (is_same (number_of j) (number_of k) e)
 
 abbrev are_names : Kind → Kind → Bool
 are_names PnameNs PnameLn = true

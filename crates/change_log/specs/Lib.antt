@@ -1,0 +1,3 @@
+pub mod Log
+pub mod Seen
+pub mod Logged

@@ -1,0 +1,48 @@
+//! Steps taken back. It takes no memory.
+ghost use Rattle.std.specs.Prelude.{◌≡◌, ℕ, ◌≤◌};
+ghost use Rattle.trie_context.specs.declared.tables.Tables.{Tables};
+ghost use Rattle.trie_context.specs.Kept.{AreKept};
+ghost use Rattle.change_log.specs.Log.{RowDid, StepDid};
+
+use crate::settle::give_up;
+use crate::step::{RowStep, Step};
+use edge_map::Edge;
+use trie_context::{Context, Held};
+use trie_depth::{Level, Mix};
+
+/// Takes a row with one hold out of its table, and gives its number up.
+fn unmake<M: Mix, L: Level>(context: &mut Context<M>, row: usize)
+    requires made { (t : Tables) × AreKept M.mixed t × RowDid M.mixed L.DEPTH t (RowStep.Made row) context.old }
+    ensures { (t : Tables) → AreKept M.mixed t → RowDid M.mixed L.DEPTH t (RowStep.Made row) context.old → context.new ≡ t }
+{
+    match context.open(Held::<L>::of_edge(Edge::Node(row))) {
+        Ok((_, place)) => context.discard(place),
+        Err(_) => unreachable!(),
+    }
+}
+
+fn undo_row<M: Mix, L: Level>(context: &mut Context<M>, step: RowStep<L>)
+    requires done { (t : Tables) × AreKept M.mixed t × RowDid M.mixed L.DEPTH t step context.old }
+    ensures { (t : Tables) → AreKept M.mixed t → RowDid M.mixed L.DEPTH t step context.old → context.new ≡ t }
+{
+    match step {
+        RowStep::Opened(place, node) => {
+            let held = context.close(place, node);
+            let _edge = held.into_edge();
+        }
+        RowStep::Made(row) => unmake::<M, L>(context, row),
+        RowStep::Found(row, _) => context.release(Held::<L>::of_edge(Edge::Node(row))),
+        RowStep::Replaced(_, new) => give_up::<M, L>(context, new),
+    }
+}
+
+pub fn undo_step<M: Mix>(context: &mut Context<M>, step: Step)
+    requires done { (t : Tables) × AreKept M.mixed t × StepDid M.mixed t step context.old }
+    ensures { (t : Tables) → AreKept M.mixed t → StepDid M.mixed t step context.old → context.new ≡ t }
+{
+    match step {
+        Step::Keys(step) => undo_row(context, step),
+        Step::Pairs(step) => undo_row(context, step),
+        Step::Triples(step) => undo_row(context, step),
+    }
+}

@@ -22,10 +22,14 @@ use Rattle.change_log.specs.declared.step.Step.TheVariants.{Keys, Pairs, Triples
 abbrev pub edge_hold : ℕ → Option Edge → ℕ → ℕ → ℕ
 edge_hold d o = at_depth d (option_leads o)
 
+-- a row was made of a node: tables t became u
+abbrev pub WasMade : (ℕ → ℕ → ℕ → ℕ → ℕ) → ℕ → Tables → ℕ → Tables → Type 0
+WasMade mixed d t row u = (node : Node) × IsInterned mixed t u d node row None
+
 -- what a step at rows of depth d makes of tables t: they become u
 abbrev pub RowDid : {L E S : Type 0} → (ℕ → ℕ → ℕ → ℕ → ℕ) → ℕ → Tables → RowStep L E S → Tables → Type 0
 RowDid mixed d t (Opened place node) u = IsOpened mixed t u d place node
-RowDid mixed d t (Made row) u = (node : Node) × IsInterned mixed t u d node row None
+RowDid mixed d t (Made row) u = WasMade mixed d t row u
 RowDid mixed d t (Found row node) u = IsInterned mixed t u d node row (Some node)
 RowDid mixed d t (Replaced old new) u = AreMoved mixed t u (edge_hold d new) nothing × RowsStay t u
 
@@ -80,7 +84,7 @@ StepHasPlace (Triples step) reserved = RowHasPlace 3 step reserved
 
 -- the reserved numbers without that of the step's place
 abbrev pub row_frees : {L E S : Type 0} → ℕ → RowStep L E S → Reserved → Reserved
-row_frees d (Opened place node) reserved e = cond (nat_eq e d) (map.remove (reserved e) place.number) (reserved e)
+row_frees d (Opened place node) reserved = λ e. cond (nat_eq e d) (map.remove (reserved e) place.number) (reserved e)
 row_frees d (Made row) reserved = reserved
 row_frees d (Found row node) reserved = reserved
 row_frees d (Replaced old new) reserved = reserved

@@ -2,7 +2,7 @@
 ghost use Rattle.std.specs.Prelude.{◌≡◌, ℕ, ◌≤◌};
 ghost use Rattle.trie_context.specs.declared.tables.Tables.{Tables};
 ghost use Rattle.trie_context.specs.Kept.{AreKept};
-ghost use Rattle.change_log.specs.Log.{RowDid, StepDid};
+ghost use Rattle.change_log.specs.Log.{WasMade, RowDid, StepDid};
 
 use crate::settle::give_up;
 use crate::step::{RowStep, Step};
@@ -12,8 +12,8 @@ use trie_depth::{Level, Mix};
 
 /// Takes a row with one hold out of its table, and gives its number up.
 fn unmake<M: Mix, L: Level>(context: &mut Context<M>, row: usize)
-    requires made { (t : Tables) × AreKept M.mixed t × RowDid M.mixed L.DEPTH t (RowStep.Made row) context.old }
-    ensures { (t : Tables) → AreKept M.mixed t → RowDid M.mixed L.DEPTH t (RowStep.Made row) context.old → context.new ≡ t }
+    requires made { (t : Tables) × AreKept M.mixed t × WasMade M.mixed L.DEPTH t row context.old }
+    ensures { (t : Tables) → AreKept M.mixed t → WasMade M.mixed L.DEPTH t row context.old → context.new ≡ t }
 {
     match context.open(Held::<L>::of_edge(Edge::Node(row))) {
         Ok((_, place)) => context.discard(place),

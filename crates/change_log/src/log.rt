@@ -64,6 +64,7 @@ impl Log {
         ensures came { RowsStay context.new context.old }
         ensures freed { (d : ℕ) → reserved_in context.new d ≡ frees self.steps (reserved_in context.old) d }
     {
+        context.is_kept();
         let Log { mut steps } = self;
         while let Some(step) = steps.pop() {
             settle_step(context, step);

@@ -77,10 +77,10 @@ impl Log {
         requires led { (t : Tables) × Leads M.mixed t self.steps context.old }
         ensures { (t : Tables) → Leads M.mixed t self.steps context.old → context.new ≡ t }
     {
-        let Log { mut steps } = self;
-        while let Some(step) = steps.pop() {
+        let Log { steps: mut done } = self;
+        while let Some(step) = done.pop() {
             undo_step(context, step);
         }
-        steps.into_iter().destroy_empty();
+        done.into_iter().destroy_empty();
     }
 }

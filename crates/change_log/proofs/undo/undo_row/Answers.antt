@@ -2,7 +2,7 @@ use Rattle.std.proofs.Common.{subst, sym}
 use Rattle.trie_context.specs.Holds.{at_depth, one_at, nothing}
 use Rattle.trie_context.specs.Kept.{AreMoved}
 use Rattle.change_log.specs.Log.{RowDid}
-use Rattle.change_log.proofs.UndoLemmas.{closed_again, found_back, moved_back, same_row}
+use Rattle.change_log.proofs.UndoLemmas.{found_back, moved_back, same_row}
 use Rattle.change_log.proofs.undo.undo_row.Goals as goal
 
 pub unmake-requires : goal.unmake-requires
@@ -10,10 +10,10 @@ unmake-requires g c =
     let r = c.requires.done in
     record { made = (r.0, r.1, subst (λ s. RowDid g.M.Mix.mixed g.L.Level.DEPTH r.0 s c.args.context.now) c.in-Made.is r.2) }
 
-pub returns-in-Opened : goal.returns-in-Opened
-returns-in-Opened g c t kept did =
-    closed_again g.M.Mix.mixed g.L.Level.DEPTH g.met.L.Level.depth_low g.met.L.Level.depth_high t c.args.context.now c.close-held.new.self kept c.in-Opened.place c.in-Opened.node
-    (subst (λ s. RowDid g.M.Mix.mixed g.L.Level.DEPTH t s c.args.context.now) c.in-Opened.is did) c.close-held.ensures.closed
+pub put_back-requires : goal.put_back-requires
+put_back-requires g c =
+    let r = c.requires.done in
+    record { opened = (r.0, r.1, subst (λ s. RowDid g.M.Mix.mixed g.L.Level.DEPTH r.0 s c.args.context.now) c.in-Opened.is r.2) }
 
 pub returns-in-Found : goal.returns-in-Found
 returns-in-Found g c t kept did =

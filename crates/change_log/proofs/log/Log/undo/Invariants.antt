@@ -6,8 +6,8 @@ use Rattle.change_log.proofs.log.Log.undo.Given as goal
 -- the steps that are left lead from the same tables to those of now
 abbrev pub invariant-loop-step : goal.invariant-loop-step
 invariant-loop-step g l = record {
-  there : (t : Tables) × Leads g.M.Mix.mixed t (reverse l.steps.items) l.context;
-  leads : (t : Tables) → Leads g.M.Mix.mixed t l.fn.self.steps l.fn.context → Leads g.M.Mix.mixed t (reverse l.steps.items) l.context;
+  there : (t : Tables) × Leads g.M.Mix.mixed t (reverse l.done.items) l.context;
+  leads : (t : Tables) → Leads g.M.Mix.mixed t l.fn.self.steps l.fn.context → Leads g.M.Mix.mixed t (reverse l.done.items) l.context;
 }
 
 abbrev pub decreases-loop-step : goal.decreases-loop-step

@@ -3,3 +3,5 @@ mod History
 mod Batches
 mod KeysAndPairs
 mod HoldSteps
+mod LogSteps
+mod LogBegin

@@ -14,7 +14,7 @@ use trie_depth::{ConstMix, Id, L1, L2, Memory, Steps};
 use trie_node::Node;
 
 /// The set of two keys.
-fn two_keys(alloc: Global, low: Id, high: Id) -> Result<Node, Memory>
+pub(crate) fn two_keys(alloc: Global, low: Id, high: Id) -> Result<Node, Memory>
     requires { low.0 < high.0 }
     ensures { IfOk result (λ n. n ≡ Node.Full 2 0 (map.insert (map.insert map.empty high.0 (Edge.Key high)) low.0 (Edge.Key low)) map.empty map.empty) }
 {
@@ -31,7 +31,7 @@ fn two_keys(alloc: Global, low: Id, high: Id) -> Result<Node, Memory>
 }
 
 /// One key before each of two keys, whose set is behind `keys`.
-fn pairs(alloc: Global, first: Id, keys: Edge, low: Id, high: Id) -> Result<Node, Memory>
+pub(crate) fn pairs(alloc: Global, first: Id, keys: Edge, low: Id, high: Id) -> Result<Node, Memory>
     requires { low.0 < high.0 }
     ensures { IfOk result (λ n. n ≡ Node.Full 2 0 (map.insert map.empty first.0 keys) (map.insert (map.insert map.empty high.0 (Edge.Key first)) low.0 (Edge.Key first)) map.empty) }
 {

@@ -7,6 +7,8 @@ mod changes;
 #[cfg(test)]
 mod holds;
 #[cfg(test)]
+mod logs;
+#[cfg(test)]
 mod nodes;
 #[cfg(test)]
 mod reads;

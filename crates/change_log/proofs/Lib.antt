@@ -1,0 +1,2 @@
+mod UndoLemmas
+mod LoopLemmas

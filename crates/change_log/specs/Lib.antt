@@ -1,0 +1,5 @@
+pub mod Log
+pub mod Seen
+pub mod Logged
+pub mod PutLaws
+pub mod ReservedLaws

@@ -1,5 +1,6 @@
 pub mod Log
 pub mod Seen
 pub mod Logged
+pub mod Laws
 pub mod PutLaws
 pub mod ReservedLaws

@@ -5,11 +5,9 @@ mod HashLemmas
 mod KeyLemmas
 mod KeyNodeLemmas
 mod KeyRowLemmas
-mod PairLemmas
 mod PairChanges
 mod RootLemmas
 mod HoldLemmas
 mod TripleLemmas
 mod PositionLemmas
-mod PartLemmas
 mod LoneLemmas

@@ -9,3 +9,6 @@ pub mod HandLaws
 pub mod After
 pub mod InHand
 pub mod Premises
+pub mod RunLaws
+pub mod PairLaws
+pub mod PartLaws

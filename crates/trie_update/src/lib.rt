@@ -18,5 +18,9 @@ mod triple_map;
 mod triples;
 mod update;
 
+pub use change::Change;
+pub use keys::change_keys;
+pub use pairs::{change_pairs, pair_edges, pair_figures, pair_node};
+pub use runs::{pair_run, triple_run};
 pub use trie_context::Root;
 pub use update::{grow, shrink};

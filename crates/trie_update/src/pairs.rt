@@ -29,7 +29,7 @@ use trie_depth::{Id, L2, Level, Memory, Mix, Pair, Steps, Trip};
 use trie_node::Node;
 
 /// The edges at a position of the set of pairs that an edge stands for.
-fn pair_edges<M: Mix>(
+pub fn pair_edges<M: Mix>(
     alloc: Global,
     context: &Context<M>,
     edge: Option<Edge>,
@@ -56,7 +56,7 @@ fn pair_edges<M: Mix>(
 }
 
 /// How many pairs an edge stands for, and the hash of their set.
-fn pair_figures<M: Mix>(context: &Context<M>, edge: Option<Edge>) -> (u64, u64)
+pub fn pair_figures<M: Mix>(context: &Context<M>, edge: Option<Edge>) -> (u64, u64)
     requires { FitsSome context.now 2 edge }
     ensures size { result.0 ≡ set.len (set_at context.now 2 edge) }
     ensures hash { result.1 ≡ set_hash M.mixed 2 (set_at context.now 2 edge) }
@@ -95,7 +95,13 @@ fn change_pair_position<M: Mix, W: Ledger, V: Ledger>(
 }
 
 /// The node of a set of pairs with this size, this hash and these edges at its positions.
-fn pair_node<M: Mix>(alloc: Global, size: u64, hash: u64, first: EdgeMap, second: EdgeMap) -> Node
+pub fn pair_node<M: Mix>(
+    alloc: Global,
+    size: u64,
+    hash: u64,
+    first: EdgeMap,
+    second: EdgeMap,
+) -> Node
     ensures { (low : ℕ → IdSet) (H : IdSet) → 1 ≤ set.len H → ArePairParts M.mixed low H size hash first second → IsPairNodeOf M.mixed low H first second result }
 {
     let least = first.seek(Id(0));

@@ -89,10 +89,7 @@ fn change<M: Mix, W: Ledger>(
     }
     log.reserve()?;
     context.retain_edge::<L2, W>(Edge::Node(others), steps);
-    log.push(Step::Keys(RowStep::Replaced(
-        Some(Edge::Node(keys)),
-        Some(Edge::Node(others)),
-    )));
+    log.push(Step::Keys(RowStep::Replaced(Some(Edge::Node(keys)), Some(Edge::Node(others)))));
     log.reserve()?;
     match context.intern_or_keep::<L2, W>(other_pairs, steps) {
         Ok(kept) => Ok(log_kept(log, kept)),
@@ -109,11 +106,9 @@ fn begin<W: Ledger>(
     requires { context.old ≡ no_tables }
     ensures { IfOk result (λ b. CanChange zero_mix context.new b.0 b.1 b.2 b.3) }
 {
-    let keys = context
-        .intern::<L1, W>(two_keys(alloc, Id(2), Id(3))?, steps)?;
+    let keys = context.intern::<L1, W>(two_keys(alloc, Id(2), Id(3))?, steps)?;
     let keys = row_of_keys(keys);
-    let others = context
-        .intern::<L1, W>(two_keys(alloc, Id(4), Id(5))?, steps)?;
+    let others = context.intern::<L1, W>(two_keys(alloc, Id(4), Id(5))?, steps)?;
     let others = row_of_keys(others);
     let first = pairs(alloc, Id(1), Edge::Node(keys), Id(2), Id(3))?;
     let held = context.intern::<L2, W>(first, steps)?;
@@ -140,15 +135,7 @@ fn undone<W: Ledger>(
     let (keys, others, row, second) = begin(&mut context, alloc, steps)?;
     let before = rows_of(&context);
     let mut log = ready_log(&mut context, alloc)?;
-    let changed = change(
-        &mut context,
-        &mut log,
-        keys,
-        others,
-        row,
-        second,
-        steps,
-    );
+    let changed = change(&mut context, &mut log, keys, others, row, second, steps);
     let within = rows_of(&context);
     log.undo(&mut context);
     let after = rows_of(&context);
@@ -165,15 +152,7 @@ fn settled<W: Ledger>(
     let mut context = Context::<ConstMix>::new(alloc);
     let (keys, others, row, second) = begin(&mut context, alloc, steps)?;
     let mut log = ready_log(&mut context, alloc)?;
-    match change(
-        &mut context,
-        &mut log,
-        keys,
-        others,
-        row,
-        second,
-        steps,
-    ) {
+    match change(&mut context, &mut log, keys, others, row, second, steps) {
         Ok(held) => {
             log.settle(&mut context);
             let after = rows_of(&context);
@@ -187,10 +166,7 @@ fn settled<W: Ledger>(
     }
 }
 
-fn counted_undone<W: Ledger>(
-    alloc: Global,
-    blank: Blank,
-) -> Result<([(u64, u64); 4], bool), Memory>
+fn counted_undone<W: Ledger>(alloc: Global, blank: Blank) -> Result<([(u64, u64); 4], bool), Memory>
     requires name { blank.name ≡ W.name }
     requires parts { blank.parts ≡ W.parts }
     requires whole { 0 < W.parts }

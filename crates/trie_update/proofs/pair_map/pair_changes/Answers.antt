@@ -7,7 +7,8 @@ use Rattle.trie_context.specs.FitEdges.{set_at, StandsAt}
 use Rattle.trie_update.specs.Batches.{set_of_entries, pair_rest}
 use Rattle.trie_update.specs.Changes.{grows}
 use Rattle.trie_update.specs.Rooms.{FitsSome}
-use Rattle.trie_update.proofs.MapLemmas.{IsCut, cut_at, first_there, begins, run_order, old_there, run_change, step}
+use Rattle.trie_update.specs.RunLaws.{IsCut, cut_at, first_there}
+use Rattle.trie_update.proofs.MapLemmas.{begins, run_order, old_there, run_change, step}
 use Rattle.trie_update.proofs.pair_map.pair_changes.Goals as goal
 
 pub loop-first-init : goal.loop-first-init
@@ -42,7 +43,7 @@ change_keys-requires-clause-run g c =
 pub change_keys-requires-clause-room : goal.change_keys-requires-clause-room
 change_keys-requires-clause-room g c d r =
     let so_far = c.loop-first.invariant.0 in
-    let whole : length c.args.pairs.now ≡ length so_far.done + length c.loop-first.rest.now = ap length so_far.whole ∙ length-append so_far.done c.loop-first.rest.now in
+    let whole : length c.args.pairs.now ≡ length so_far.runs.done + length c.loop-first.rest.now = ap length so_far.runs.whole ∙ length-append so_far.runs.done c.loop-first.rest.now in
     omega (arith, c.requires.room d r, c.loop-first.invariant.1 d r, (first_there c.loop-first.rest.now c.in-Some.first.now c.in-Some.ensures.value).0, whole)
 
 pub loop-first-preserved : goal.loop-first-preserved
@@ -51,7 +52,7 @@ loop-first-preserved g c =
     let run = c.split_at.result.0.now in
     let turn : Cut c.loop-first.rest.now c.in-Some.first.now.0 run c.split_at.result.1.now =
     cut c.loop-first.rest.now c.pair_run.result run c.split_at.result.1.now c.in-Some.first.now c.split_at.ensures.by_index.0 c.split_at.ensures.front c.split_at.ensures.back c.pair_run.ensures.bound c.pair_run.ensures.run c.pair_run.ensures.end c.in-Some.ensures.value in
-    let more : length (so_far.done ++ run) ≡ length so_far.done + length run = length-append so_far.done run in (
+    let more : length (so_far.runs.done ++ run) ≡ length so_far.runs.done + length run = length-append so_far.runs.done run in (
       step key_of pair_rest g.M.Mix.mixed c.args.change 1 c.args.context.now c.args.old.now c.args.pairs.now c.is_kept.ensures c.requires.entries.fits c.requires.entries.order
           c.loop-first.context c.loop-first.rest.now c.loop-first.changes.items so_far c.in-Some.first.now.0 run c.split_at.result.1.now turn
           c.change_keys.new.context c.in_ok-edge.edge c.in_ok-edge.ensures.held.moved c.in_ok-edge.ensures.held.stay

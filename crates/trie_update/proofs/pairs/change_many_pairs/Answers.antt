@@ -12,7 +12,7 @@ use Rattle.trie_update.specs.Changes.{grows}
 use Rattle.trie_update.specs.FigureLaws.{has_size, size_is, hash_is}
 use Rattle.trie_update.specs.HandLaws.{fits_stay, set_at_stays, hand_held, given_back}
 use Rattle.trie_context.specs.MoveLaws.{at_most, one_at_most, rows_stay_on}
-use Rattle.trie_update.proofs.PairLemmas.{on_err}
+use Rattle.trie_update.specs.PairLaws.{on_err}
 use Rattle.trie_update.proofs.PairChanges.{both, changed_deep, none_moved, pair_parts, node_held, node_given, edge_stands, edge_moved}
 use Rattle.trie_update.proofs.pairs.change_many_pairs.Goals as goal
 

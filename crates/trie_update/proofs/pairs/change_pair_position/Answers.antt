@@ -8,7 +8,7 @@ use Rattle.trie_update.specs.Batches.{set_of_entries, trip_rest}
 use Rattle.trie_update.specs.BatchLaws.{order_once}
 use Rattle.trie_update.specs.Changes.{grows}
 use Rattle.trie_update.specs.Rooms.{AreSlicesAt, AreChanged}
-use Rattle.trie_update.proofs.PairLemmas.{if_ok, changes_of, slices_after}
+use Rattle.trie_update.specs.PairLaws.{if_ok, changes_of, slices_after}
 use Rattle.trie_update.proofs.pairs.change_pair_position.Goals as goal
 
 pub pairs_by_key-requires-clause-once : goal.pairs_by_key-requires-clause-once

@@ -7,7 +7,7 @@ use Rattle.trie_node.specs.declared.node.Node.TheVariants.{Single, Full}
 use Rattle.trie_context.specs.declared.tables.Tables.{Tables}
 use Rattle.trie_context.specs.FitEdges.{set_at}
 use Rattle.trie_update.specs.Rooms.{AreSlicesAt}
-use Rattle.trie_update.proofs.PairLemmas.{pair_edge_there, edge_row, edge_slices, row_single, row_first, row_second, empty_slices, slices_as, if_ok}
+use Rattle.trie_update.specs.PairLaws.{pair_edge_there, edge_row, edge_slices, row_single, row_first, row_second, empty_slices, slices_as, if_ok}
 use Rattle.trie_update.proofs.pairs.pair_edges.Goals as goal
 use Rattle.trie_update.proofs.pairs.pair_edges.Goals.{then-position-eq0, else-position-eq0}
 

@@ -5,7 +5,7 @@ use Rattle.edge_map.specs.declared.edge.Edge.TheVariants.{Node as ToRow}
 use Rattle.trie_node.specs.Sets.{tuple_mix, set_hash}
 use Rattle.trie_context.specs.declared.tables.Tables.{Tables}
 use Rattle.trie_context.specs.FitEdges.{set_at}
-use Rattle.trie_update.proofs.PairLemmas.{pair_edge_there, pair_edge_set, edge_row, row_size, row_hash, none_size, none_hash}
+use Rattle.trie_update.specs.PairLaws.{pair_edge_there, pair_edge_set, edge_row, row_size, row_hash, none_size, none_hash}
 use Rattle.trie_update.proofs.pairs.pair_figures.Goals as goal
 
 pub node-node-requires : goal.node-node-requires

@@ -1,7 +1,7 @@
 use Rattle.std.proofs.Common.{◌≡◌, ap, ◌∙◌, Some, is_some, arith}
 use Rattle.std.specs.FinMap as map
 use Rattle.edge_map.specs.declared.edge.Edge.TheVariants.{Key, Node as ToRow}
-use Rattle.trie_update.proofs.PairLemmas.{some_at, single_node, full_node, large_apart, large_row, large_none}
+use Rattle.trie_update.specs.PairLaws.{some_at, single_node, full_node, large_apart, large_row, large_none}
 use Rattle.trie_update.proofs.pairs.pair_node.Goals as goal
 
 pub returns-in-Some-default-Key : goal.returns-in-Some-default-Key

@@ -1,5 +1,5 @@
 use Rattle.trie_update.proofs.LoneLemmas.{lone_given, lone_stands}
-use Rattle.trie_update.proofs.PairLemmas.{on_err}
+use Rattle.trie_update.specs.PairLaws.{on_err}
 use Rattle.trie_update.proofs.pairs.put_pair.Goals as goal
 
 pub returns-in_err-held-clause-kept : goal.returns-in_err-held-clause-kept

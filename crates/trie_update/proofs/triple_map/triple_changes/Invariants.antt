@@ -7,8 +7,8 @@ use Rattle.trie_update.proofs.triple_map.triple_changes.Given as goal
 abbrev pub invariant-loop-first : goal.invariant-loop-first
 invariant-loop-first g l =
     (so_far : AreDone (λ p. p.0.0) trip_rest g.M.Mix.mixed l.change 2 l.fn.context l.old l.triples l.context l.rest l.changes.items)
-    × CountsRiseBy l.fn.context l.context (λ _ _. 2 ^ 34 * length so_far.done)
-    × (l.interns ≤ l.fn.interns + 3 * length so_far.done)
+    × CountsRiseBy l.fn.context l.context (λ _ _. 2 ^ 34 * length so_far.runs.done)
+    × (l.interns ≤ l.fn.interns + 3 * length so_far.runs.done)
 
 abbrev pub decreases-loop-first : goal.decreases-loop-first
 decreases-loop-first g l = length l.rest

@@ -9,7 +9,7 @@ use Rattle.trie_update.specs.FigureLaws.{has_size}
 use Rattle.trie_context.specs.Roots.{root_hold}
 use Rattle.trie_context.specs.declared.root.Root.TheVariants.{Many}
 use Rattle.trie_update.proofs.PositionLemmas.{still_held, all_given_back, stay_again, err_holds}
-use Rattle.trie_update.proofs.PartLemmas.{are_parts, none_is, no_edge, one_whole, whole_is, full_form, root_is}
+use Rattle.trie_update.specs.PartLaws.{are_parts, none_is, no_edge, one_whole, whole_is, full_form, root_is}
 use Rattle.trie_update.proofs.triples.change_root.Goals as goal
 
 pub changed_size-size-requires : goal.changed_size-size-requires

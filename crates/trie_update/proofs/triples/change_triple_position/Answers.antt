@@ -7,7 +7,7 @@ use Rattle.trie_depth.specs.Tuples.{trip_tuple}
 use Rattle.trie_update.specs.Batches.{set_of_entries}
 use Rattle.trie_update.specs.Changes.{grows}
 use Rattle.trie_update.specs.Rooms.{AreChanged, AreSlicesAt, row_set_at}
-use Rattle.trie_update.proofs.PairLemmas.{changes_of, slices_after}
+use Rattle.trie_update.specs.PairLaws.{changes_of, slices_after}
 use Rattle.trie_update.proofs.PositionLemmas.{small_after}
 use Rattle.trie_update.proofs.triples.change_triple_position.Goals as goal
 

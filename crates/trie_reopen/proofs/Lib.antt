@@ -1,0 +1,4 @@
+mod HeldMaps
+mod OwnMaps
+mod Stored
+mod Turns

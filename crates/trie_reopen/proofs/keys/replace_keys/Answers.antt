@@ -1,0 +1,18 @@
+use Rattle.std.proofs.Common.{◌∙◌, ◌∷◌, ap, sym, subst, refl}
+use Rattle.change_log.specs.declared.step.RowStep.TheVariants.{Replaced}
+use Rattle.change_log.specs.declared.step.Step.TheVariants.{Keys}
+use Rattle.change_log.specs.Laws.{logged_replaced}
+use Rattle.change_log.specs.Log.{edge_hold}
+use Rattle.change_log.specs.Logged.{IsLogged}
+use Rattle.trie_reopen.proofs.keys.replace_keys.Goals as goal
+
+pub returns-clause-logged : goal.returns-clause-logged
+returns-clause-logged g c =
+    let t = c.args.context.now in
+    let u = c.change_keys.new.context in
+    let log = c.args.log.now.steps in
+    let old = c.args.old in
+    let new = c.in_ok-new.new in
+    let h = c.in_ok-new.ensures.held in
+    subst (λ steps. IsLogged g.M.Mix.mixed t u log steps (edge_hold 1 new) (edge_hold 1 old) 1) (sym (c.push.ensures ∙ ap (λ l. Keys (Replaced old new) ∷ l) c.in_ok-reserve.ensures.same))
+    (logged_replaced g.M.Mix.mixed t u log (Keys (Replaced old new)) c.is_kept.ensures (h.moved, h.stay) 1 old new 1 h.moved h.stay h.counts (λ e r. refl))

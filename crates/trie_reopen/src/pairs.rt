@@ -1,0 +1,117 @@
+//! The row of a set of pairs: taken out with its edges in hand, stored again as another, or replaced by a copy.
+ghost use Rattle.std.specs.Prelude.{◌≡◌, ◌+◌, ◌*◌, ◌≤◌, ◌<◌, ◌^◌, ℕ, Some, IsSome, IfOk, OnErr, length};
+ghost use Rattle.std.specs.FinSet as set;
+ghost use Rattle.change_log.specs.Log.{edge_hold, Grows};
+ghost use Rattle.change_log.specs.Logged.{IsLogged};
+ghost use Rattle.edge_map.specs.declared.edge.Edge.{Edge};
+ghost use Rattle.trie_node.specs.declared.node.Node.{Node};
+ghost use Rattle.trie_node.specs.Sets.{edges_in, edges_of};
+ghost use Rattle.trie_context.specs.FitEdges.{StandsAt, option_leads};
+ghost use Rattle.trie_context.specs.Holds.{count_of, holds_of, one_at, at_depth};
+ghost use Rattle.trie_context.specs.Kept.{IsNode};
+ghost use Rattle.trie_context.specs.Opened.{IsOpened};
+ghost use Rattle.trie_context.specs.Rows.{row_of, node_of, set_of, node_set};
+ghost use Rattle.trie_update.specs.After.{pairs_after, run_room};
+ghost use Rattle.trie_update.specs.Batches.{trip_rest};
+ghost use Rattle.trie_update.specs.Premises.{MayChangeEdge};
+ghost use Rattle.trie_update.specs.Rooms.{LeavesRoom, FitsSome, AreSlicesAt};
+
+use change_log::{Log, RowStep, Step};
+use edge_map::{Edge, EdgeMap};
+use std::alloc::Global;
+use std::sync::ledger::Ledger;
+use trie_context::{Context, Held, Kept};
+use trie_depth::{L2, Memory, Mix, Steps, Trip};
+use trie_node::Node;
+use trie_update::{Change, change_pairs, pair_edges};
+
+/// The edges at both positions of the pairs of a row.
+pub fn pair_maps<M: Mix>(
+    alloc: Global,
+    context: &Context<M>,
+    row: usize,
+) -> Result<(EdgeMap, EdgeMap), Memory>
+    requires fits { FitsSome context.now 2 (Some (Edge.Node row)) }
+    ensures first { IfOk result (λ m. AreSlicesAt context.now 1 (set_of context.now 2 row) 0 m.0) }
+    ensures second { IfOk result (λ m. AreSlicesAt context.now 1 (set_of context.now 2 row) 1 m.1) }
+    ensures edges { IfOk result (λ m. (n : Node) → node_of context.now 2 row ≡ Some n → (r : ℕ) → edges_in m.0 r + edges_in m.1 r ≡ edges_of n r) }
+{
+    context.is_kept();
+    let edge = Some(Edge::Node(row));
+    let first = pair_edges(alloc, context, edge, 0)?;
+    let second = pair_edges(alloc, context, edge, 1)?;
+    Ok((first, second))
+}
+
+/// Takes the row out of its table, and logs it. Its edges are in hand.
+pub fn open_pairs<M: Mix>(context: &mut Context<M>, row: usize, log: &mut Log)
+    requires held { 1 ≤ holds_of context.old 2 row }
+    requires alone { count_of (row_of context.old 2 row) ≤ 1 }
+    requires room { 0 < log.old.spare }
+    ensures opened { (n : Node) × (node_of context.old 2 row ≡ Some n) × IsLogged M.mixed context.old context.new log.old.steps log.new.steps (at_depth 1 (edges_of n)) (at_depth 2 (one_at row)) 0 }
+    ensures below { (r : ℕ) → set_of context.new 1 r ≡ set_of context.old 1 r }
+{
+    context.is_kept();
+    match context.open(Held::<L2>::of_edge(Edge::Node(row))) {
+        Ok((node, place)) => log.push(Step::Pairs(RowStep::Opened(place, node))),
+        Err(_) => unreachable!(),
+    }
+}
+
+/// The edge to the row of a changed node, which is made or found. The node's edges were in hand.
+pub fn store_pairs<M: Mix, W: Ledger>(
+    context: &mut Context<M>,
+    node: Node,
+    log: &mut Log,
+    interns: &mut Steps<W>,
+) -> Result<Option<Edge>, Memory>
+    requires form { IsNode M.mixed 2 (set_of context.old 1) node }
+    requires filled { 1 ≤ set.len (node_set 2 (set_of context.old 1) node) }
+    requires held { (r : ℕ) → edges_of node r ≤ holds_of context.old 1 r }
+    requires room { LeavesRoom context.old 1 }
+    ensures stands { IfOk result (StandsAt context.new 2 (node_set 2 (set_of context.old 1) node)) }
+    ensures logged { IfOk result (λ e. IsLogged M.mixed context.old context.new log.old.steps log.new.steps (edge_hold 2 e) (at_depth 1 (edges_of node)) 1) }
+    ensures grew { OnErr result (Grows M.mixed context.old context.new log.old.steps log.new.steps) }
+    ensures ticks { interns.new ≤ interns.old + 1 }
+{
+    context.is_kept();
+    log.reserve()?;
+    match context.intern_or_keep::<L2, W>(node, interns) {
+        Ok(Kept::Made(held)) => {
+            log.push(Step::Pairs(RowStep::Made(held.row())));
+            Ok(Some(held.into_edge()))
+        }
+        Ok(Kept::Found(held, same)) => {
+            log.push(Step::Pairs(RowStep::Found(held.row(), same)));
+            Ok(Some(held.into_edge()))
+        }
+        Err((_, memory)) => Err(memory),
+    }
+}
+
+/// The edge for pairs that others share, or that are new, changed by copying. The hold of the old edge is kept in the log.
+pub fn replace_pairs<M: Mix, W: Ledger, V: Ledger>(
+    alloc: Global,
+    context: &mut Context<M>,
+    change: Change,
+    old: Option<Edge>,
+    run: &[Trip],
+    log: &mut Log,
+    interns: &mut Steps<W>,
+    retains: &mut Steps<V>,
+) -> Result<Option<Edge>, Memory>
+    requires run { MayChangeEdge change context.old 2 trip_rest old run.now }
+    requires some { 1 ≤ length run.now }
+    requires room { LeavesRoom context.old (run_room run.now) }
+    requires size { set.len (pairs_after change context.old old run.now) < 2 ^ 64 }
+    ensures stands { IfOk result (StandsAt context.new 2 (pairs_after change context.old old run.now)) }
+    ensures logged { IfOk result (λ e. IsLogged M.mixed context.old context.new log.old.steps log.new.steps (edge_hold 2 e) (edge_hold 2 old) (run_room run.now)) }
+    ensures grew { OnErr result (Grows M.mixed context.old context.new log.old.steps log.new.steps) }
+    ensures ticks { interns.new ≤ interns.old + 3 * length run.now }
+{
+    context.is_kept();
+    log.reserve()?;
+    let new = change_pairs(alloc, context, change, old, run, interns, retains)?;
+    log.push(Step::Pairs(RowStep::Replaced(old, new)));
+    Ok(new)
+}

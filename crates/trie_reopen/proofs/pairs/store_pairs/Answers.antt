@@ -17,9 +17,9 @@ returns-in-Ok-Made-clause-logged g c =
 
 pub returns-in-Ok-Found-clause-stands : goal.returns-in-Ok-Found-clause-stands
 returns-in-Ok-Found-clause-stands g c =
-    pairs_stand g.M.Mix.mixed c.args.context.now c.intern_or_keep.new.self c.is_kept.ensures c.args.log.now.steps c.args.node c.in-Ok-Found.held (Some c.in-Ok-Found.same) (subst (λ f. IsInterned g.M.Mix.mixed c.args.context.now c.intern_or_keep.new.self 2 c.args.node (kept_row f) (came_back f)) c.in-Ok-Found.field-0-is c.in-Ok-Found.ensures.kept) c.requires.held c.requires.filled c.into_edge-in-Found.result c.into_edge-in-Found.ensures
+    pairs_stand g.M.Mix.mixed c.args.context.now c.intern_or_keep.new.self c.is_kept.ensures c.args.log.now.steps c.args.node c.in-Ok-Found.held (Some c.in-Ok-Found.same) (subst (λ f. IsInterned g.M.Mix.mixed c.args.context.now c.intern_or_keep.new.self 2 c.args.node (kept_row f) (came_back f)) c.in-Ok-Found.field-0-is c.in-Ok-Found.ensures.kept) c.requires.held c.requires.filled c.into_edge-in-Ok-Found.result c.into_edge-in-Ok-Found.ensures
 
 pub returns-in-Ok-Found-clause-logged : goal.returns-in-Ok-Found-clause-logged
 returns-in-Ok-Found-clause-logged g c =
-    pairs_found g.M.Mix.mixed c.args.context.now c.intern_or_keep.new.self c.is_kept.ensures c.args.log.now.steps c.args.node c.in-Ok-Found.held c.push-in-Found.new.self.steps c.into_edge-in-Found.result c.into_edge-in-Found.ensures c.in-Ok-Found.same (subst (λ f. IsInterned g.M.Mix.mixed c.args.context.now c.intern_or_keep.new.self 2 c.args.node (kept_row f) (came_back f)) c.in-Ok-Found.field-0-is c.in-Ok-Found.ensures.kept)
-    (c.push-in-Found.ensures ∙ ap (λ r. Pairs (Found r c.in-Ok-Found.same) ∷ c.reserve.new.self.steps) c.row-in-Found.ensures ∙ ap (λ l. Pairs (Found c.in-Ok-Found.held c.in-Ok-Found.same) ∷ l) c.in_ok-reserve.ensures.same)
+    pairs_found g.M.Mix.mixed c.args.context.now c.intern_or_keep.new.self c.is_kept.ensures c.args.log.now.steps c.args.node c.in-Ok-Found.held c.push-in-Ok-Found.new.self.steps c.into_edge-in-Ok-Found.result c.into_edge-in-Ok-Found.ensures c.in-Ok-Found.same (subst (λ f. IsInterned g.M.Mix.mixed c.args.context.now c.intern_or_keep.new.self 2 c.args.node (kept_row f) (came_back f)) c.in-Ok-Found.field-0-is c.in-Ok-Found.ensures.kept)
+    (c.push-in-Ok-Found.ensures ∙ ap (λ r. Pairs (Found r c.in-Ok-Found.same) ∷ c.reserve.new.self.steps) c.row-in-Ok-Found.ensures ∙ ap (λ l. Pairs (Found c.in-Ok-Found.held c.in-Ok-Found.same) ∷ l) c.in_ok-reserve.ensures.same)

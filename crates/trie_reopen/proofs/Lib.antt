@@ -1,4 +1,5 @@
 mod HeldMaps
 mod OwnMaps
+mod PairTurns
 mod Stored
 mod Turns

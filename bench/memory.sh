@@ -10,7 +10,7 @@ sizes=("$@")
 # The greatest resident set, in KiB, once the script is carried out; and the last line of its answers.
 peak_of() {
     local script=$1 answer line last=
-    coproc TENTRIS { "$program"; }
+    coproc TENTRIS { exec "$program"; }
     # the program reads on after the script, so that it can still be looked at
     { cat "$script"; echo STATS; } >&"${TENTRIS[1]}"
     while IFS= read -r line <&"${TENTRIS[0]}"; do

@@ -1,8 +1,8 @@
 #!/usr/bin/env bash
-# How fast queries are answered: rows a second, over one INSERT block of generated lines. Where sqlite3 is installed, it
-# answers the same joins in memory, over a table of numbers with three covering indexes and a table of terms, and the
-# ratio of the time here to its time is printed: below 1, this program is faster. A number of lines may be given as a
-# word.
+# How fast lines are loaded and queries are answered: rows a second, over one INSERT block of generated lines. Where
+# sqlite3 is installed, it loads the same lines and answers the same joins in memory, over a table of numbers with three
+# covering indexes and a table of terms, and the ratio of the time here to its time is printed: below 1, this program is
+# faster. A number of lines may be given as a word.
 set -euo pipefail
 source "$(dirname "${BASH_SOURCE[0]}")/common.sh"
 
@@ -78,6 +78,9 @@ has_sqlite=$(command -v sqlite3 || true)
 [[ -z $has_sqlite ]] || load_sql=$(least_seconds "$folder/sql" sqlite3 :memory:)
 
 printf '%-20s %10s %12s %12s %12s %8s\n' query rows seconds rows/s sqlite3 ratio
+printf '%-20s %10d %12.6f %12.0f' load "$count" "$load" "$(ratio "$count" "$load")"
+[[ -z $has_sqlite ]] || printf ' %12.6f %8.2f' "$load_sql" "$(ratio "$load" "$load_sql")"
+printf '\n'
 measure triangle \
     'SELECT * { ?a <urn:p:0> ?b . ?b <urn:p:1> ?c . ?c <urn:p:2> ?a }' \
     "SELECT $(text x.s), $(text y.s), $(text z.s) FROM triple x, triple y, triple z

@@ -1,4 +1,4 @@
-//! The chunks of a map. Most maps have one, which lies in the map itself.
+//! The chunks of a map. Most maps have one, which lies in the map itself; a longer list is shared by maps with the same chunks.
 ghost use Rattle.std.specs.Prelude.{◌≡◌, ◌≤◌, ◌^◌, [], IfOk, length};
 ghost use Rattle.edge_map.specs.Chunks.{flat};
 
@@ -6,6 +6,7 @@ use crate::chunk::Chunk;
 use crate::chunks::total;
 use std::alloc::Global;
 use std::marker::Model;
+use std::rc::Rc;
 use trie_depth::Memory;
 
 /// Chunks, and how many entries they have.
@@ -19,7 +20,7 @@ pub struct Long {
 pub enum Listed {
     Nothing,
     One(Chunk),
-    Many(Box<Long>),
+    Many(Rc<Long>),
 }
 
 pub struct ChunkList {
@@ -63,7 +64,7 @@ impl ChunkList {
         let mut chunks = chunks;
         if chunks.len() > 1 {
             let size = total(&chunks);
-            let long = Box::new(alloc, Long { size, chunks })?;
+            let long = Rc::new(alloc, Long { size, chunks })?;
             return Ok(ChunkList {
                 listed: Listed::Many(long),
             });
@@ -74,6 +75,18 @@ impl ChunkList {
             }),
             None => Ok(ChunkList::new()),
         }
+    }
+
+    /// The same chunks once more. A longer list is shared.
+    pub fn share(&self) -> Result<ChunkList, Memory>
+        ensures { IfOk result (λ list. list ≡ self.now) }
+    {
+        let listed = match &self.listed {
+            Listed::Nothing => Listed::Nothing,
+            Listed::One(chunk) => Listed::One(chunk.share()?),
+            Listed::Many(long) => Listed::Many(long.clone()?),
+        };
+        Ok(ChunkList { listed })
     }
 
     /// How many entries the chunks have.

@@ -32,7 +32,7 @@ use Rattle.trie_context.specs.declared.tables.Tables.{Tables}
 use Rattle.trie_context.specs.Rows.{row_of, set_of}
 use Rattle.trie_context.specs.Holds.{count_of}
 use Rattle.trie_context.specs.Shape.{HasShape}
-use Rattle.trie_update.specs.Rooms.{CountsUpTo}
+use Rattle.trie_change.specs.Rooms.{CountsUpTo}
 use Rattle.graph_view.proofs.FoundLemmas.{some_member}
 
 both_ways : (a b : Bool) → (b ≡ true → a ≡ true) → (b || (a && not b)) ≡ a

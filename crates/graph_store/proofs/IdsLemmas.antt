@@ -9,7 +9,7 @@ use Rattle.std.specs.FinSet as set
 use Rattle.hypertrie_model.specs.SliceLaws.{any_passes, passes_any}
 use Rattle.trie_depth.specs.declared.id.Trip.{Trip}
 use Rattle.trie_depth.specs.Tuples.{trip_tuple}
-use Rattle.trie_update.specs.Batches.{set_of_entries}
+use Rattle.trie_change.specs.Batches.{set_of_entries}
 use Rattle.graph_image.specs.Images.{is_among, IsUsed}
 use Rattle.graph_image.specs.ImageLaws.{tuples_total, tuples_exact}
 use Rattle.graph_store.proofs.NotedLemmas.{take_next}

@@ -3,7 +3,7 @@ ghost use Rattle.std.specs.Prelude.{◌≡◌, ℕ, true, ◌↔◌, IfOk, OnOk,
 ghost use Rattle.std.specs.FinSet as set;
 ghost use Rattle.hypertrie_model.specs.Sets.{has};
 ghost use Rattle.trie_depth.specs.Tuples.{id_tuple, trip_tuple};
-ghost use Rattle.trie_update.specs.Batches.{set_of_entries};
+ghost use Rattle.trie_change.specs.Batches.{set_of_entries};
 ghost use Rattle.graph_image.specs.Images.{is_among, IsUsed};
 ghost use Rattle.graph_store.specs.Staging.{numbers, AreDistinct};
 

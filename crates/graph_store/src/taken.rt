@@ -7,7 +7,7 @@ ghost use Rattle.hypertrie_model.specs.Changes.{IsChange};
 ghost use Rattle.trie_depth.specs.Tuples.{trip_tuple};
 ghost use Rattle.trie_context.specs.Roots.{root_set};
 ghost use Rattle.trie_context.specs.RootShape.{OnlyRootHeld};
-ghost use Rattle.trie_update.specs.Batches.{set_of_entries, IsOnce};
+ghost use Rattle.trie_change.specs.Batches.{set_of_entries, IsOnce};
 ghost use Rattle.trie_view.specs.Subs.{sub_depth, sub_set};
 ghost use Rattle.graph_image.specs.Images.{is_among, IsUsed};
 ghost use Rattle.graph_view.specs.Read.{set_in};

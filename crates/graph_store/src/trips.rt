@@ -3,7 +3,7 @@ ghost use Rattle.std.specs.Prelude.{◌≡◌, IfOk, OnOk, OnErr};
 ghost use Rattle.std.specs.FinSet as set;
 ghost use Rattle.hypertrie_model.specs.Sets.{has};
 ghost use Rattle.trie_depth.specs.Tuples.{trip_tuple};
-ghost use Rattle.trie_update.specs.Batches.{set_of_entries, IsOnce};
+ghost use Rattle.trie_change.specs.Batches.{set_of_entries, IsOnce};
 
 use std::alloc::Global;
 use std::collections::BTreeSet;
@@ -20,7 +20,7 @@ impl Model for Trips {
     ghost use Rattle.std.specs.FinSet as set;
     ghost use Rattle.hypertrie_model.specs.IdSets.{IdSet};
     ghost use Rattle.trie_depth.specs.Tuples.{trip_tuple};
-    ghost use Rattle.trie_update.specs.Batches.{set_of_entries};
+    ghost use Rattle.trie_change.specs.Batches.{set_of_entries};
 
     ghost Value = { IdSet };
 

@@ -24,12 +24,12 @@ use Rattle.change_log.specs.declared.step.Step.{Step}
 use Rattle.change_log.specs.Log.{edge_hold, keeps}
 use Rattle.change_log.specs.Logged.{IsLogged}
 use Rattle.change_log.specs.Laws.{logged_on, others_stand, keeps_more}
-use Rattle.trie_update.specs.declared.change.Change.{Change}
-use Rattle.trie_update.specs.After.{map_hold}
-use Rattle.trie_update.specs.Changes.{grows}
-use Rattle.trie_update.specs.Rooms.{AllFit}
-use Rattle.trie_update.specs.RunLaws as runs
-use Rattle.trie_update.specs.RunLaws.{ChangesBelow, below_weaker, change_here, change_other, changed_here, changed_other, changed_above}
+use Rattle.trie_change.specs.declared.change.Change.{Change}
+use Rattle.trie_change.specs.After.{map_hold}
+use Rattle.trie_change.specs.Changes.{grows}
+use Rattle.trie_change.specs.Rooms.{AllFit}
+use Rattle.trie_change.specs.RunLaws as runs
+use Rattle.trie_change.specs.RunLaws.{ChangesBelow, below_weaker, change_here, change_other, changed_here, changed_other, changed_above}
 
 -- edges of a changed map
 

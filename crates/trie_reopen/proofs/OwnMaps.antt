@@ -24,8 +24,8 @@ use Rattle.trie_context.specs.EdgeLaws.{edge_filled, edge_named}
 use Rattle.trie_context.specs.FitEdges.{FitsAt, set_at, StandsAt}
 use Rattle.trie_context.specs.Kept.{AreKept}
 use Rattle.trie_context.specs.NodeLaws.{node_formed, node_set_is}
-use Rattle.trie_update.specs.PairLaws.{lone_leads}
-use Rattle.trie_update.specs.Rooms.{AllFit, FitsSome, AreSlicesAt}
+use Rattle.trie_change.specs.PairLaws.{lone_leads}
+use Rattle.trie_change.specs.Rooms.{AllFit, FitsSome, AreSlicesAt}
 
 -- the edges of slices fit
 pub slices_fit : (t : Tables) (d : ℕ) (H : IdSet) (i : ℕ) (m : Edges) → AreSlicesAt t d H i m → AllFit t d m

@@ -23,14 +23,14 @@ use Rattle.change_log.specs.declared.step.Step.{Step}
 use Rattle.change_log.specs.Log.{edge_hold}
 use Rattle.change_log.specs.Logged.{IsLogged}
 use Rattle.change_log.specs.Laws.{logged_as, logged_on}
-use Rattle.trie_update.specs.declared.change.Change.{Change}
-use Rattle.trie_update.specs.Batches.{set_of_entries, trip_rest}
-use Rattle.trie_update.specs.Changes.{grows}
-use Rattle.trie_update.specs.DepthLaws.{after_deep, edge_deep, trip_rest_deep}
-use Rattle.trie_update.specs.HandLaws.{no_edges, no_leads}
-use Rattle.trie_update.specs.Nodes.{ArePairParts, IsPairNodeOf}
-use Rattle.trie_update.specs.PairLaws.{slices_after}
-use Rattle.trie_update.specs.Rooms.{FitsSome, AreSlicesAt, AreChanged}
+use Rattle.trie_change.specs.declared.change.Change.{Change}
+use Rattle.trie_change.specs.Batches.{set_of_entries, trip_rest}
+use Rattle.trie_change.specs.Changes.{grows}
+use Rattle.trie_change.specs.DepthLaws.{after_deep, edge_deep, trip_rest_deep}
+use Rattle.trie_change.specs.HandLaws.{no_edges, no_leads}
+use Rattle.trie_change.specs.Nodes.{ArePairParts, IsPairNodeOf}
+use Rattle.trie_change.specs.PairLaws.{slices_after}
+use Rattle.trie_change.specs.Rooms.{FitsSome, AreSlicesAt, AreChanged}
 use Rattle.trie_reopen.proofs.OwnMaps.{slices_below}
 use Rattle.trie_reopen.proofs.Turns.{InTwo, two_held, turn_two}
 

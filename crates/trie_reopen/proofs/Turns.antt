@@ -11,7 +11,7 @@ use Rattle.trie_context.specs.MoveLaws.{if_same, if_other, same_or_not, at_here,
 use Rattle.change_log.specs.declared.step.Step.{Step}
 use Rattle.change_log.specs.Logged.{IsLogged}
 use Rattle.change_log.specs.Laws.{logged_on, logged_as, others_slices, keeps_more}
-use Rattle.trie_update.specs.Rooms.{AreSlicesAt}
+use Rattle.trie_change.specs.Rooms.{AreSlicesAt}
 
 turn_net : (d : ℕ) (x y rest : ℕ → ℕ) (e r : ℕ) → at_depth d (λ r. x r + rest r) e r + at_depth d y e r ≡ at_depth d x e r + at_depth d (λ r. y r + rest r) e r
 turn_net d x y rest e r = same_or_not e d _

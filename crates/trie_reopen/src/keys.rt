@@ -1,12 +1,12 @@
 //! A key set changed, with the old one kept in the log.
-ghost use Rattle.std.specs.Prelude.{◌≡◌, ◌+◌, ◌≤◌, IfOk, OnErr};
+ghost use Rattle.std.specs.Prelude.{◌≡◌, ◌+◌, ◌≤◌, ℕ, IfOk, OnErr, IsTrue};
 ghost use Rattle.change_log.specs.Log.{edge_hold, Grows};
 ghost use Rattle.change_log.specs.Logged.{IsLogged};
-ghost use Rattle.trie_context.specs.FitEdges.{StandsAt};
-ghost use Rattle.trie_update.specs.After.{keys_after};
-ghost use Rattle.trie_update.specs.Batches.{pair_rest};
-ghost use Rattle.trie_update.specs.Premises.{MayChangeEdge};
-ghost use Rattle.trie_update.specs.Rooms.{LeavesRoom};
+ghost use Rattle.trie_context.specs.FitEdges.{StandsAt, option_leads};
+ghost use Rattle.trie_change.specs.After.{keys_after};
+ghost use Rattle.trie_change.specs.Batches.{pair_rest};
+ghost use Rattle.trie_change.specs.Premises.{MayChangeEdge};
+ghost use Rattle.trie_change.specs.Rooms.{LeavesRoom};
 
 use change_log::{Log, RowStep, Step};
 use edge_map::Edge;
@@ -14,10 +14,20 @@ use std::alloc::Global;
 use std::sync::ledger::Ledger;
 use trie_context::Context;
 use trie_depth::{Memory, Mix, Pair, Steps};
-use trie_update::{Change, change_keys};
+use trie_change::{Change, change_keys};
+
+/// Whether the edge leads to no row.
+fn leads_nowhere(edge: Option<Edge>) -> bool
+    ensures { IsTrue result → (r : ℕ) → option_leads edge r ≡ 0 }
+{
+    match edge {
+        Some(Edge::Node(_)) => false,
+        Some(Edge::Key(_)) | None => true,
+    }
+}
 
 /// The edge for the keys of an edge, changed by those behind the first of the run. The hold of the old edge is kept in
-/// the log, and the new one's is in hand.
+/// the log, and the new one's is in hand. Single keys hold nothing, and are not logged.
 pub fn replace_keys<M: Mix, W: Ledger>(
     alloc: Global,
     context: &mut Context<M>,
@@ -37,6 +47,9 @@ pub fn replace_keys<M: Mix, W: Ledger>(
     context.is_kept();
     log.reserve()?;
     let new = change_keys(alloc, context, change, old, run, interns)?;
+    if leads_nowhere(old) && leads_nowhere(new) {
+        return Ok(new);
+    }
     log.push(Step::Keys(RowStep::Replaced(old, new)));
     Ok(new)
 }

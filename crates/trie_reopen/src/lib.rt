@@ -3,12 +3,12 @@
 //! its own in the log, so that nothing that another holds is copied or given up.
 #![tactic(auto)]
 
+mod graph;
 mod keys;
 mod pair_map;
 mod pairs;
+mod reopened;
+mod triple_map;
 mod triples;
 
-pub use keys::replace_keys;
-pub use pair_map::replace_each;
-pub use pairs::{open_pairs, pair_maps, replace_pairs, store_pairs};
-pub use triples::{open_triples, store_triples};
+pub use graph::reopen_triples;

@@ -1,5 +1,5 @@
 //! A map of edges to key sets changed, with the old edges kept in the log.
-ghost use Rattle.std.specs.Prelude.{◌≡◌, ◌+◌, ◌≤◌, ℕ, [], OnOk, OnErr, length};
+ghost use Rattle.std.specs.Prelude.{◌≡◌, ◌+◌, ◌≤◌, ℕ, [], IfOk, OnOk, OnErr, length};
 ghost use Rattle.change_log.specs.Log.{Grows};
 ghost use Rattle.change_log.specs.Logged.{IsLogged};
 ghost use Rattle.edge_map.specs.Edges.{changed};
@@ -7,9 +7,9 @@ ghost use Rattle.edge_map.specs.Entries.{KeysRise};
 ghost use Rattle.trie_depth.specs.Tuples.{pair_tuple};
 ghost use Rattle.trie_node.specs.Sets.{edges_in};
 ghost use Rattle.trie_context.specs.Holds.{holds_of};
-ghost use Rattle.trie_update.specs.After.{map_hold, pairs_of};
-ghost use Rattle.trie_update.specs.Premises.{MayChangeMap};
-ghost use Rattle.trie_update.specs.Rooms.{LeavesRoom, AreChanged};
+ghost use Rattle.trie_change.specs.After.{map_hold, pairs_of};
+ghost use Rattle.trie_change.specs.Premises.{MayChangeMap};
+ghost use Rattle.trie_change.specs.Rooms.{LeavesRoom, AreChanged};
 
 use crate::keys::replace_keys;
 use change_log::Log;
@@ -18,7 +18,7 @@ use std::alloc::Global;
 use std::sync::ledger::Ledger;
 use trie_context::Context;
 use trie_depth::{Id, Memory, Mix, Pair, Steps};
-use trie_update::{Change, pair_run};
+use trie_change::{Change, pair_run};
 
 /// What each run of pairs makes of the edge under its first key. The old map's edges were in hand, and those of the changed
 /// map are.
@@ -53,4 +53,28 @@ pub fn replace_each<M: Mix, W: Ledger>(
         rest = others;
     }
     Ok(())
+}
+
+/// The map with the edge under the first key of each pair changed by the second keys. The old map's edges were in hand, and
+/// the new one's are.
+pub fn replace_pair_map<M: Mix, W: Ledger>(
+    alloc: Global,
+    context: &mut Context<M>,
+    change: Change,
+    old: &EdgeMap,
+    pairs: &[Pair],
+    log: &mut Log,
+    interns: &mut Steps<W>,
+) -> Result<EdgeMap, Memory>
+    requires entries { MayChangeMap change context.old 1 pair_tuple old.now pairs.now }
+    requires held { (r : ℕ) → edges_in old.now r ≤ holds_of context.old 1 r }
+    requires room { LeavesRoom context.old (length pairs.now) }
+    ensures changed { IfOk result (AreChanged change context.old context.new 1 old.now (pairs_of pairs.now)) }
+    ensures logged { IfOk result (λ m. IsLogged M.mixed context.old context.new log.old.steps log.new.steps (map_hold 1 m) (map_hold 1 old.now) (length pairs.now)) }
+    ensures grew { OnErr result (Grows M.mixed context.old context.new log.old.steps log.new.steps) }
+    ensures ticks { interns.new ≤ interns.old + length pairs.now }
+{
+    let mut changes = Vec::new(alloc);
+    replace_each(alloc, context, change, old, pairs, &mut changes, log, interns)?;
+    old.with(&changes)
 }

@@ -11,10 +11,10 @@ ghost use Rattle.trie_context.specs.Holds.{count_of, holds_of, one_at, at_depth}
 ghost use Rattle.trie_context.specs.Kept.{IsNode};
 ghost use Rattle.trie_context.specs.Opened.{IsOpened};
 ghost use Rattle.trie_context.specs.Rows.{row_of, node_of, set_of, node_set};
-ghost use Rattle.trie_update.specs.After.{pairs_after, run_room};
-ghost use Rattle.trie_update.specs.Batches.{trip_rest};
-ghost use Rattle.trie_update.specs.Premises.{MayChangeEdge};
-ghost use Rattle.trie_update.specs.Rooms.{LeavesRoom, FitsSome, AreSlicesAt};
+ghost use Rattle.trie_change.specs.After.{pairs_after, run_room};
+ghost use Rattle.trie_change.specs.Batches.{trip_rest};
+ghost use Rattle.trie_change.specs.Premises.{MayChangeEdge};
+ghost use Rattle.trie_change.specs.Rooms.{LeavesRoom, FitsSome, AreSlicesAt};
 
 use change_log::{Log, RowStep, Step};
 use edge_map::{Edge, EdgeMap};
@@ -23,7 +23,7 @@ use std::sync::ledger::Ledger;
 use trie_context::{Context, Held, Kept};
 use trie_depth::{L2, Memory, Mix, Steps, Trip};
 use trie_node::Node;
-use trie_update::{Change, change_pairs, pair_edges};
+use trie_change::{Change, change_pairs, pair_edges};
 
 /// The edges at both positions of the pairs of a row.
 pub fn pair_maps<M: Mix>(

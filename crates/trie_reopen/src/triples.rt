@@ -8,7 +8,7 @@ ghost use Rattle.trie_context.specs.Holds.{count_of, holds_of, one_at, at_depth}
 ghost use Rattle.trie_context.specs.Kept.{IsNode};
 ghost use Rattle.trie_context.specs.Roots.{root_set, root_hold};
 ghost use Rattle.trie_context.specs.Rows.{row_of, node_of, set_of, node_set};
-ghost use Rattle.trie_update.specs.Rooms.{LeavesRoom};
+ghost use Rattle.trie_change.specs.Rooms.{LeavesRoom};
 
 use change_log::{Log, RowStep, Step};
 use edge_map::Edge;

@@ -1,13 +1,2 @@
-mod MapLemmas
-mod BatchLemmas
-mod HandLemmas
-mod HashLemmas
-mod KeyLemmas
-mod KeyNodeLemmas
-mod KeyRowLemmas
-mod PairChanges
-mod RootLemmas
-mod HoldLemmas
-mod TripleLemmas
-mod PositionLemmas
-mod LoneLemmas
+mod RootHolds
+mod Settled

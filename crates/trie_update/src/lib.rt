@@ -1,26 +1,16 @@
-//! A batch of triples put into a graph, or taken out of it. A change goes down by the depth: that of the graph makes
-//! those of its slices by one key, and these make those of their key sets. Each changed node is copied, changed and
-//! stored once; what is not changed is shared.
-//!
-//! `specs/Batches.antt` says which sets batches are, and `specs/Changes.antt` what a change makes of a set.
+//! A batch of triples put into a graph, or taken out of it. A row that nothing else leads to is opened, changed and stored
+//! again; any other is copied. What a change replaces is kept until it is settled, so that for want of memory, or by
+//! `undo`, everything is as before.
 #![tactic(auto)]
 
-mod batch;
-mod change;
-mod hand;
-mod hash;
-mod keys;
-mod levels;
-mod pair_map;
-mod pairs;
-mod runs;
-mod triple_map;
-mod triples;
+mod end;
+mod open;
+mod record;
+mod replaced;
 mod update;
 
-pub use change::Change;
-pub use keys::change_keys;
-pub use pairs::{change_pairs, pair_edges, pair_figures, pair_node};
-pub use runs::{pair_run, triple_run};
+pub use end::{settle, undo};
+pub use open::{grow_open, shrink_open};
+pub use record::Undo;
 pub use trie_context::Root;
 pub use update::{grow, shrink};

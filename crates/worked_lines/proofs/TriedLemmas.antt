@@ -25,8 +25,8 @@ use Rattle.trie_context.specs.RowLaws.{empty_at}
 use Rattle.trie_context.specs.Holds.{count_of, holds_of}
 use Rattle.trie_context.specs.Roots.{root_set, root_hold}
 use Rattle.trie_context.specs.RootShape.{OnlyRootHeld}
-use Rattle.trie_update.specs.Batches.{set_of_entries, IsOnce}
-use Rattle.trie_update.specs.BatchLaws.{order_once}
+use Rattle.trie_change.specs.Batches.{set_of_entries, IsOnce}
+use Rattle.trie_change.specs.BatchLaws.{order_once}
 use Rattle.term_dict.specs.Dict.{Terms}
 use Rattle.graph_image.specs.Images.{IsKnown, AreKnown}
 use Rattle.worked_lines.specs.Tried.{is_below_four}

@@ -6,7 +6,7 @@ ghost use Rattle.trie_depth.specs.Tuples.{trip_tuple};
 ghost use Rattle.trie_context.specs.declared.root.Root.{Root};
 ghost use Rattle.trie_context.specs.Rows.{no_tables};
 ghost use Rattle.trie_context.specs.Roots.{IsHeld};
-ghost use Rattle.trie_update.specs.Batches.{set_of_entries, IsOnce};
+ghost use Rattle.trie_change.specs.Batches.{set_of_entries, IsOnce};
 ghost use Rattle.graph_image.specs.Images.{AreKnown};
 ghost use Rattle.worked_lines.specs.Tried.{is_below_four};
 

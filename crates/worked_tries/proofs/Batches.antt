@@ -5,8 +5,8 @@ use Rattle.std.specs.Ordering.{nat_cmp}
 use Rattle.hypertrie_model.specs.Changes.{IsChange}
 use Rattle.trie_depth.specs.declared.id.Trip.{Trip}
 use Rattle.trie_depth.specs.Tuples.{trip_tuple}
-use Rattle.trie_update.specs.Batches.{set_of_entries, IsOnce}
-use Rattle.trie_update.specs.BatchLaws.{order_once}
+use Rattle.trie_change.specs.Batches.{set_of_entries, IsOnce}
+use Rattle.trie_change.specs.BatchLaws.{order_once}
 use Rattle.worked_tries.proofs.Grown.{trip}
 use Rattle.worked_tries.proofs.History.{list_within}
 

@@ -22,8 +22,8 @@ use Rattle.trie_context.specs.Rows.{no_tables, row_of}
 use Rattle.trie_context.specs.Holds.{count_of}
 use Rattle.trie_context.specs.RowLaws.{empty_at}
 use Rattle.trie_context.specs.Roots.{root_set}
-use Rattle.trie_update.specs.Batches.{IsOnce}
-use Rattle.trie_update.specs.BatchLaws.{order_once}
+use Rattle.trie_change.specs.Batches.{IsOnce}
+use Rattle.trie_change.specs.BatchLaws.{order_once}
 
 -- where no row is, no count is
 pub counts_none : (t : Tables) → t ≡ no_tables → (d r : ℕ) → count_of (row_of t d r) ≡ 0

@@ -4,7 +4,7 @@ ghost use Rattle.trie_depth.specs.Tuples.{trip_tuple};
 ghost use Rattle.trie_context.specs.Rows.{no_tables};
 ghost use Rattle.trie_context.specs.declared.root.Root.{Root};
 ghost use Rattle.trie_context.specs.Roots.{IsHeld};
-ghost use Rattle.trie_update.specs.Batches.{IsOnce};
+ghost use Rattle.trie_change.specs.Batches.{IsOnce};
 ghost use Rattle.trie_view.specs.Subs.{sub_depth};
 
 use crate::reads::{AtMask, Slice, at_masks};

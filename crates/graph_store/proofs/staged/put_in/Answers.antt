@@ -3,7 +3,7 @@ use Rattle.std.specs.FinSet as set
 use Rattle.trie_depth.specs.Tuples.{trip_tuple}
 use Rattle.trie_context.specs.Roots.{root_set}
 use Rattle.trie_context.specs.RootShape.{root_shape}
-use Rattle.trie_update.specs.Batches.{set_of_entries}
+use Rattle.trie_change.specs.Batches.{set_of_entries}
 use Rattle.graph_image.specs.TermLaws.{len-union_most}
 use Rattle.graph_image.specs.ImageLaws.{tuples_total, tuples_exact}
 use Rattle.graph_store.proofs.CountLemmas.{counts_few}

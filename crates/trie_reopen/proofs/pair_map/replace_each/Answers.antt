@@ -8,12 +8,12 @@ use Rattle.change_log.specs.Laws.{logged_none, grows_on}
 use Rattle.change_log.specs.Log.{edge_hold}
 use Rattle.change_log.specs.Logged.{IsLogged}
 use Rattle.trie_context.specs.FitEdges.{set_at, StandsAt}
-use Rattle.trie_update.specs.After.{map_hold}
-use Rattle.trie_update.specs.Batches.{set_of_entries, pair_rest}
-use Rattle.trie_update.specs.Changes.{grows}
-use Rattle.trie_update.specs.Rooms.{FitsSome}
-use Rattle.trie_update.specs.PairLaws.{on_err}
-use Rattle.trie_update.specs.RunLaws.{IsCut, cut_at, first_there, begins, run_order, old_there, run_change}
+use Rattle.trie_change.specs.After.{map_hold}
+use Rattle.trie_change.specs.Batches.{set_of_entries, pair_rest}
+use Rattle.trie_change.specs.Changes.{grows}
+use Rattle.trie_change.specs.Rooms.{FitsSome}
+use Rattle.trie_change.specs.PairLaws.{on_err}
+use Rattle.trie_change.specs.RunLaws.{IsCut, cut_at, first_there, begins, run_order, old_there, run_change}
 use Rattle.trie_reopen.proofs.HeldMaps.{done_step, hand_step}
 use Rattle.trie_reopen.proofs.pair_map.replace_each.Goals as goal
 

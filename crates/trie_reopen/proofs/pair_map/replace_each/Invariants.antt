@@ -1,9 +1,9 @@
 use Rattle.std.proofs.Common.{◌+◌, ◌≤◌, ◌-◌, length}
 use Rattle.edge_map.specs.Edges.{changed}
 use Rattle.change_log.specs.Logged.{IsLogged}
-use Rattle.trie_update.specs.After.{map_hold}
-use Rattle.trie_update.specs.Batches.{pair_rest}
-use Rattle.trie_update.specs.RunLaws.{AreDone}
+use Rattle.trie_change.specs.After.{map_hold}
+use Rattle.trie_change.specs.Batches.{pair_rest}
+use Rattle.trie_change.specs.RunLaws.{AreDone}
 use Rattle.trie_reopen.proofs.pair_map.replace_each.Given as goal
 
 abbrev pub invariant-loop-first : goal.invariant-loop-first

@@ -4,7 +4,7 @@ use Rattle.change_log.specs.declared.step.Step.TheVariants.{Pairs}
 use Rattle.change_log.specs.Laws.{logged_replaced}
 use Rattle.change_log.specs.Log.{edge_hold}
 use Rattle.change_log.specs.Logged.{IsLogged}
-use Rattle.trie_update.specs.After.{run_room}
+use Rattle.trie_change.specs.After.{run_room}
 use Rattle.trie_reopen.proofs.pairs.replace_pairs.Goals as goal
 
 pub returns-clause-logged : goal.returns-clause-logged

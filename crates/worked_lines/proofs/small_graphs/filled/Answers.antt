@@ -4,7 +4,7 @@ use Rattle.trie_depth.specs.Tuples.{trip_tuple}
 use Rattle.trie_context.specs.Roots.{root_set}
 use Rattle.trie_context.specs.RootShape.{changed_shape}
 use Rattle.trie_context.specs.Shape.{HasShape}
-use Rattle.trie_update.specs.Batches.{set_of_entries}
+use Rattle.trie_change.specs.Batches.{set_of_entries}
 use Rattle.trie_view.specs.RootLaws.{held_root_there}
 use Rattle.graph_image.specs.Images.{AreKnown}
 use Rattle.worked_lines.proofs.TriedLemmas.{counts_none, nothing_held, all_new, union_none}

@@ -2,7 +2,7 @@ use Rattle.std.proofs.Common.{◌∙◌, ap, arith}
 use Rattle.std.specs.FinSet as set
 use Rattle.trie_depth.specs.Tuples.{trip_tuple}
 use Rattle.trie_context.specs.Roots.{root_set}
-use Rattle.trie_update.specs.Batches.{set_of_entries}
+use Rattle.trie_change.specs.Batches.{set_of_entries}
 use Rattle.worked_tries.proofs.Grown.{counts_none, all_new, all_put}
 use Rattle.worked_tries.proofs.History.{part_there, part_within, part_new, part_back}
 use Rattle.worked_tries.proofs.changes.history.Goals as goal

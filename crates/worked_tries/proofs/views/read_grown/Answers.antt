@@ -2,7 +2,7 @@ use Rattle.std.proofs.Common.{ap, sym, subst, arith}
 use Rattle.std.specs.FinSet as set
 use Rattle.trie_depth.specs.Tuples.{trip_tuple}
 use Rattle.trie_context.specs.Kept.{AreKept}
-use Rattle.trie_update.specs.Batches.{set_of_entries}
+use Rattle.trie_change.specs.Batches.{set_of_entries}
 use Rattle.trie_view.specs.Places.{IsRootThere}
 use Rattle.trie_view.specs.RootLaws.{held_root_there}
 use Rattle.worked_tries.proofs.Grown.{counts_none, all_new, all_put}

@@ -5,7 +5,7 @@ use Rattle.hypertrie_model.specs.Changes.{IsChange}
 use Rattle.trie_depth.specs.Tuples.{trip_tuple}
 use Rattle.trie_context.specs.Kept.{AreKept}
 use Rattle.trie_context.specs.Roots.{root_set}
-use Rattle.trie_update.specs.Batches.{set_of_entries}
+use Rattle.trie_change.specs.Batches.{set_of_entries}
 use Rattle.trie_view.specs.Places.{IsRootThere}
 use Rattle.trie_view.specs.Subs.{sub_set}
 use Rattle.graph_view.specs.Read.{set_in}

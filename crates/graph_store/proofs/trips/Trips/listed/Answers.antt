@@ -2,7 +2,7 @@ use Rattle.std.proofs.Common.{◌≡◌, sym, ◌∙◌, ap, subst}
 use Rattle.std.proofs.lemmas.Map.Iter.{iter_end}
 use Rattle.graph_image.specs.ImageLaws.{tuples_total, tuples_exact}
 use Rattle.trie_depth.specs.Tuples.{trip_tuple}
-use Rattle.trie_update.specs.Batches.{set_of_entries, IsOnce}
+use Rattle.trie_change.specs.Batches.{set_of_entries, IsOnce}
 use Rattle.graph_store.proofs.SortedLemmas.{map_itself, set_len}
 use Rattle.graph_store.proofs.TripOrder.{trip_cmp, trips_ordered}
 use Rattle.graph_store.proofs.trips.Trips.listed.Goals as goal

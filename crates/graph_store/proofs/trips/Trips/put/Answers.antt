@@ -2,7 +2,7 @@ use Rattle.std.proofs.Common.{◌∙◌, ap}
 use Rattle.std.specs.FinSet as set
 use Rattle.graph_image.specs.ImageLaws.{tuples_total, tuples_exact}
 use Rattle.trie_depth.specs.Tuples.{trip_tuple}
-use Rattle.trie_update.specs.Batches.{set_of_entries}
+use Rattle.trie_change.specs.Batches.{set_of_entries}
 use Rattle.graph_store.proofs.SortedLemmas.{set_inserted}
 use Rattle.graph_store.proofs.TripOrder.{trip_cmp, trips_ordered}
 use Rattle.graph_store.proofs.trips.Trips.put.Goals as goal

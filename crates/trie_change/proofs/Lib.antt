@@ -1,0 +1,13 @@
+mod MapLemmas
+mod BatchLemmas
+mod HandLemmas
+mod HashLemmas
+mod KeyLemmas
+mod KeyNodeLemmas
+mod KeyRowLemmas
+mod PairChanges
+mod RootLemmas
+mod HoldLemmas
+mod TripleLemmas
+mod PositionLemmas
+mod LoneLemmas

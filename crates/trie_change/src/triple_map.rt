@@ -1,0 +1,86 @@
+//! A map of a node of depth three changed.
+ghost use Rattle.std.specs.Prelude.{◌≡◌, ◌+◌, ◌*◌, ◌≤◌, ◌^◌, [], IfOk, OnOk, OnErr, length};
+ghost use Rattle.edge_map.specs.Entries.{KeysRise};
+ghost use Rattle.edge_map.specs.Edges.{changed};
+ghost use Rattle.trie_depth.specs.Tuples.{trip_tuple};
+ghost use Rattle.trie_change.specs.After.{triples_of, map_hold, changes_hold, run_room, map_room};
+ghost use Rattle.trie_change.specs.InHand.{IsInHand};
+ghost use Rattle.trie_change.specs.Premises.{MayChangeMap};
+ghost use Rattle.trie_change.specs.Rooms.{LeavesRoom, AreChanged, AreSmallAfter};
+
+use crate::change::Change;
+use crate::hand::{Changes, release_changes};
+use crate::levels::{changed_map, each_run};
+use crate::pairs::change_pairs;
+use crate::runs::triple_run;
+use edge_map::EdgeMap;
+use std::alloc::Global;
+use std::sync::ledger::Ledger;
+use trie_context::Context;
+use trie_depth::{L3, Memory, Mix, Steps, Trip};
+
+/// What each run of triples makes of the edge under its first key. Whatever the answer, the edges of the changes are in hand.
+fn triple_changes<M: Mix, W: Ledger, V: Ledger>(
+    alloc: Global,
+    context: &mut Context<M>,
+    change: Change,
+    old: &EdgeMap,
+    triples: &[Trip],
+    changes: &mut Changes,
+    interns: &mut Steps<W>,
+    retains: &mut Steps<V>,
+) -> Result<(), Memory>
+    requires none { changes.old.items ≡ [] }
+    requires entries { MayChangeMap change context.old 2 trip_tuple old.now triples.now }
+    requires size { AreSmallAfter change context.old 2 old.now (triples_of triples.now) }
+    requires room { LeavesRoom context.old (run_room triples.now) }
+    ensures rise { KeysRise changes.new.items }
+    ensures changed { OnOk result (AreChanged change context.old context.new 2 old.now (triples_of triples.now) (changed old.now changes.new.items)) }
+    ensures held { IsInHand M.mixed context.old context.new (changes_hold 2 changes.new.items) (run_room triples.now) }
+    ensures ticks { interns.new ≤ interns.old + 3 * length triples.now }
+{
+    context.is_kept();
+    each_run!(triples, changes, triple_run, (key, run) => {
+        change_pairs::<M, W, V>(alloc, context, change, old.get(key), run, interns, retains)
+    })
+}
+
+/// The map of a node of depth three with the edge under the first key of each triple changed by what is behind it. The new
+/// map's edges are in hand.
+pub fn change_triple_map<M: Mix, W: Ledger, V: Ledger>(
+    alloc: Global,
+    context: &mut Context<M>,
+    change: Change,
+    old: &EdgeMap,
+    triples: &[Trip],
+    interns: &mut Steps<W>,
+    retains: &mut Steps<V>,
+) -> Result<EdgeMap, Memory>
+    requires entries { MayChangeMap change context.old 2 trip_tuple old.now triples.now }
+    requires size { AreSmallAfter change context.old 2 old.now (triples_of triples.now) }
+    requires room { LeavesRoom context.old (map_room triples.now) }
+    ensures changed { IfOk result (AreChanged change context.old context.new 2 old.now (triples_of triples.now)) }
+    ensures held { IfOk result (λ m. IsInHand M.mixed context.old context.new (map_hold 2 m) (map_room triples.now)) }
+    ensures kept { OnErr result (context.new ≡ context.old) }
+    ensures ticks { interns.new ≤ interns.old + 3 * length triples.now }
+{
+    context.is_kept();
+    let mut changes = Vec::new(alloc);
+    changed_map!(
+        context,
+        L3,
+        old,
+        changes,
+        triple_changes(
+            alloc,
+            context,
+            change,
+            old,
+            triples,
+            &mut changes,
+            interns,
+            retains
+        ),
+        retains
+    )
+}

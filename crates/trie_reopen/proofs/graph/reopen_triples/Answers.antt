@@ -1,0 +1,639 @@
+use Rattle.std.proofs.Common.{rules, ◌≡◌, ℕ, IfOk, ◌+◌, ◌*◌, ◌^◌, ◌≤◌, ◌<◌, length, refl, subst, sym, ap, ◌∙◌, arith, Some}
+use Rattle.std.specs.Ordering.{nat_cmp}
+use Rattle.std.specs.FinSet as set
+use Rattle.hypertrie_model.specs.Changes.{after}
+use Rattle.hypertrie_model.specs.Slices.{slice}
+use Rattle.trie_depth.specs.Tuples.{trip_tuple}
+use Rattle.trie_node.specs.declared.node.Node.{Node}
+use Rattle.trie_node.specs.declared.node.Node.TheVariants.{Full}
+use Rattle.trie_node.specs.Sets.{edges_of}
+use Rattle.trie_context.specs.Rows.{node_of, set_of}
+use Rattle.trie_context.specs.Holds.{one_at, at_depth}
+use Rattle.trie_context.specs.Roots.{root_set, root_hold}
+use Rattle.change_log.specs.Laws.{grows_on}
+use Rattle.change_log.specs.Log.{Grows}
+use Rattle.change_log.specs.Logged.{IsLogged}
+use Rattle.trie_change.specs.After.{run_room, graph_room}
+use Rattle.trie_change.specs.Batches.{set_of_entries}
+use Rattle.trie_change.specs.Changes.{grows}
+use Rattle.trie_change.specs.FigureLaws.{has_size}
+use Rattle.trie_change.specs.PairLaws.{if_ok, on_err, small_after}
+use Rattle.trie_change.specs.PartLaws.{are_parts, full_form, whole_is}
+use Rattle.trie_reopen.proofs.TripleTurns.{starts, changes_one, first_held, may_change, node_held, stored}
+use Rattle.trie_reopen.proofs.Unmoved.{err_then}
+use Rattle.trie_reopen.proofs.graph.reopen_triples.Goals as goal
+
+pub changed_size-size-requires : goal.changed_size-size-requires
+changed_size-size-requires g c =
+    has_size c.args.change (set_of c.args.context.now 3 c.args.row) (set_of_entries trip_tuple c.args.batch.now) c.requires.batch.change c.requires.batch.size c.triple_figures-size.result.0 (length c.args.batch.now) c.triple_figures-size.ensures.size c.requires.batch.once
+
+pub replace_triple_map-requires-clause-entries : goal.replace_triple_map-requires-clause-entries
+replace_triple_map-requires-clause-entries g c =
+    let t0 = c.args.context.now in
+    let l0 = c.args.log.now.steps in
+    let row = c.args.row in
+    let H = set_of t0 3 row in
+    let B = set_of_entries trip_tuple c.args.batch.now in
+    let G = after (grows c.args.change) H B in
+    let a = c.in_ok-first.first in
+    let b = c.in_ok-first.second in
+    let e = c.in_ok-first.third in
+    let t1 = c.open_triples.new.context in
+    let l1 = c.open_triples.new.log.steps in
+    let s1 = starts g.M.Mix.mixed t0 l0 row a b e c.in_ok-first.ensures.first c.in_ok-first.ensures.second c.in_ok-first.ensures.third c.in_ok-first.ensures.edges t1 l1
+    (subst (λ l. (n : Node) × (node_of t0 3 row ≡ Some n) × IsLogged g.M.Mix.mixed t0 t1 l l1 (at_depth 2 (edges_of n)) (at_depth 3 (one_at row)) 0) c.in_ok-reserve.ensures.same c.open_triples.ensures.opened) c.open_triples.ensures.below in
+    may_change g.M.Mix.mixed t0 l0 row c.args.change t1 l1 H B 0 a H 1 b H 2 e 0 s1 c.deref.result.now (λ k. ap (λ ts. slice nat_cmp (set_of_entries trip_tuple ts) 0 k) c.deref.ensures.value ∙ c.in_ok-by_first.ensures.slices k) (search rules) c.requires.batch.change
+
+pub replace_triple_map-requires-clause-size : goal.replace_triple_map-requires-clause-size
+replace_triple_map-requires-clause-size g c =
+    let t0 = c.args.context.now in
+    let l0 = c.args.log.now.steps in
+    let row = c.args.row in
+    let H = set_of t0 3 row in
+    let B = set_of_entries trip_tuple c.args.batch.now in
+    let G = after (grows c.args.change) H B in
+    let a = c.in_ok-first.first in
+    let b = c.in_ok-first.second in
+    let e = c.in_ok-first.third in
+    let t1 = c.open_triples.new.context in
+    let l1 = c.open_triples.new.log.steps in
+    let s1 = starts g.M.Mix.mixed t0 l0 row a b e c.in_ok-first.ensures.first c.in_ok-first.ensures.second c.in_ok-first.ensures.third c.in_ok-first.ensures.edges t1 l1
+    (subst (λ l. (n : Node) × (node_of t0 3 row ≡ Some n) × IsLogged g.M.Mix.mixed t0 t1 l l1 (at_depth 2 (edges_of n)) (at_depth 3 (one_at row)) 0) c.in_ok-reserve.ensures.same c.open_triples.ensures.opened) c.open_triples.ensures.below in
+    small_after c.args.change t1 2 H B 0 a (set_of_entries trip_tuple c.deref.result.now) s1.one (λ k. ap (λ ts. slice nat_cmp (set_of_entries trip_tuple ts) 0 k) c.deref.ensures.value ∙ c.in_ok-by_first.ensures.slices k) c.requires.batch.size
+
+pub replace_triple_map-requires-clause-held : goal.replace_triple_map-requires-clause-held
+replace_triple_map-requires-clause-held g c =
+    let t0 = c.args.context.now in
+    let l0 = c.args.log.now.steps in
+    let row = c.args.row in
+    let H = set_of t0 3 row in
+    let B = set_of_entries trip_tuple c.args.batch.now in
+    let G = after (grows c.args.change) H B in
+    let a = c.in_ok-first.first in
+    let b = c.in_ok-first.second in
+    let e = c.in_ok-first.third in
+    let t1 = c.open_triples.new.context in
+    let l1 = c.open_triples.new.log.steps in
+    let s1 = starts g.M.Mix.mixed t0 l0 row a b e c.in_ok-first.ensures.first c.in_ok-first.ensures.second c.in_ok-first.ensures.third c.in_ok-first.ensures.edges t1 l1
+    (subst (λ l. (n : Node) × (node_of t0 3 row ≡ Some n) × IsLogged g.M.Mix.mixed t0 t1 l l1 (at_depth 2 (edges_of n)) (at_depth 3 (one_at row)) 0) c.in_ok-reserve.ensures.same c.open_triples.ensures.opened) c.open_triples.ensures.below in
+    first_held g.M.Mix.mixed t0 l0 row c.args.change t1 l1 H B 0 a H 1 b H 2 e 0 s1
+
+pub replace_triple_map-requires-clause-room : goal.replace_triple_map-requires-clause-room
+replace_triple_map-requires-clause-room g c d r =
+    let t0 = c.args.context.now in
+    let l0 = c.args.log.now.steps in
+    let row = c.args.row in
+    let H = set_of t0 3 row in
+    let B = set_of_entries trip_tuple c.args.batch.now in
+    let G = after (grows c.args.change) H B in
+    let a = c.in_ok-first.first in
+    let b = c.in_ok-first.second in
+    let e = c.in_ok-first.third in
+    let t1 = c.open_triples.new.context in
+    let l1 = c.open_triples.new.log.steps in
+    let s1 = starts g.M.Mix.mixed t0 l0 row a b e c.in_ok-first.ensures.first c.in_ok-first.ensures.second c.in_ok-first.ensures.third c.in_ok-first.ensures.edges t1 l1
+    (subst (λ l. (n : Node) × (node_of t0 3 row ≡ Some n) × IsLogged g.M.Mix.mixed t0 t1 l l1 (at_depth 2 (edges_of n)) (at_depth 3 (one_at row)) 0) c.in_ok-reserve.ensures.same c.open_triples.ensures.opened) c.open_triples.ensures.below in
+    let many0 : length c.deref.result.now ≡ length c.args.batch.now = ap length c.deref.ensures.value ∙ c.in_ok-by_first.ensures.len in
+    omega (arith, c.requires.room d r, s1.logged.counts d r, many0)
+
+pub returns-in_err-by_first-clause-grew : goal.returns-in_err-by_first-clause-grew
+returns-in_err-by_first-clause-grew g c =
+    let t0 = c.args.context.now in
+    let l0 = c.args.log.now.steps in
+    let row = c.args.row in
+    let H = set_of t0 3 row in
+    let B = set_of_entries trip_tuple c.args.batch.now in
+    let G = after (grows c.args.change) H B in
+    let a = c.in_ok-first.first in
+    let b = c.in_ok-first.second in
+    let e = c.in_ok-first.third in
+    let t1 = c.open_triples.new.context in
+    let l1 = c.open_triples.new.log.steps in
+    let s1 = starts g.M.Mix.mixed t0 l0 row a b e c.in_ok-first.ensures.first c.in_ok-first.ensures.second c.in_ok-first.ensures.third c.in_ok-first.ensures.edges t1 l1
+    (subst (λ l. (n : Node) × (node_of t0 3 row ≡ Some n) × IsLogged g.M.Mix.mixed t0 t1 l l1 (at_depth 2 (edges_of n)) (at_depth 3 (one_at row)) 0) c.in_ok-reserve.ensures.same c.open_triples.ensures.opened) c.open_triples.ensures.below in
+    on_err _ c.from_residual-in_err-by_first.result s1.logged.grew
+
+pub returns-in_err-one-clause-grew : goal.returns-in_err-one-clause-grew
+returns-in_err-one-clause-grew g c =
+    let t0 = c.args.context.now in
+    let l0 = c.args.log.now.steps in
+    let row = c.args.row in
+    let H = set_of t0 3 row in
+    let B = set_of_entries trip_tuple c.args.batch.now in
+    let G = after (grows c.args.change) H B in
+    let a = c.in_ok-first.first in
+    let b = c.in_ok-first.second in
+    let e = c.in_ok-first.third in
+    let t1 = c.open_triples.new.context in
+    let l1 = c.open_triples.new.log.steps in
+    let s1 = starts g.M.Mix.mixed t0 l0 row a b e c.in_ok-first.ensures.first c.in_ok-first.ensures.second c.in_ok-first.ensures.third c.in_ok-first.ensures.edges t1 l1
+    (subst (λ l. (n : Node) × (node_of t0 3 row ≡ Some n) × IsLogged g.M.Mix.mixed t0 t1 l l1 (at_depth 2 (edges_of n)) (at_depth 3 (one_at row)) 0) c.in_ok-reserve.ensures.same c.open_triples.ensures.opened) c.open_triples.ensures.below in
+    on_err _ c.from_residual-in_err-one.result (grows_on g.M.Mix.mixed t0 t1 c.replace_triple_map.new.context l0 l1 c.replace_triple_map.new.log.steps s1.logged.grew c.in_err-one.ensures.grew)
+
+pub replace_triple_map-requires-2-clause-entries : goal.replace_triple_map-requires-2-clause-entries
+replace_triple_map-requires-2-clause-entries g c =
+    let t0 = c.args.context.now in
+    let l0 = c.args.log.now.steps in
+    let row = c.args.row in
+    let H = set_of t0 3 row in
+    let B = set_of_entries trip_tuple c.args.batch.now in
+    let G = after (grows c.args.change) H B in
+    let a = c.in_ok-first.first in
+    let b = c.in_ok-first.second in
+    let e = c.in_ok-first.third in
+    let t1 = c.open_triples.new.context in
+    let l1 = c.open_triples.new.log.steps in
+    let s1 = starts g.M.Mix.mixed t0 l0 row a b e c.in_ok-first.ensures.first c.in_ok-first.ensures.second c.in_ok-first.ensures.third c.in_ok-first.ensures.edges t1 l1
+    (subst (λ l. (n : Node) × (node_of t0 3 row ≡ Some n) × IsLogged g.M.Mix.mixed t0 t1 l l1 (at_depth 2 (edges_of n)) (at_depth 3 (one_at row)) 0) c.in_ok-reserve.ensures.same c.open_triples.ensures.opened) c.open_triples.ensures.below in
+    let t2 = c.replace_triple_map.new.context in
+    let l2 = c.replace_triple_map.new.log.steps in
+    let n = run_room c.deref.result.now in
+    let s2 = changes_one g.M.Mix.mixed t0 l0 row c.args.change t1 l1 H B 0 a H 1 b H 2 e 0 s1 (set_of_entries trip_tuple c.deref.result.now) (λ k. ap (λ ts. slice nat_cmp (set_of_entries trip_tuple ts) 0 k) c.deref.ensures.value ∙ c.in_ok-by_first.ensures.slices k)
+    t2 l2 c.in_ok-one.one n c.in_ok-one.ensures.logged c.in_ok-one.ensures.changed n (omega arith) in
+    may_change g.M.Mix.mixed t0 l0 row c.args.change t2 l2 H B 1 b H 2 e G 0 c.in_ok-one.one n s2 c.deref-2.result.now (λ k. ap (λ ts. slice nat_cmp (set_of_entries trip_tuple ts) 0 k) c.deref-2.ensures.value ∙ c.in_ok-by_second.ensures.slices k) (search rules) c.requires.batch.change
+
+pub replace_triple_map-requires-2-clause-size : goal.replace_triple_map-requires-2-clause-size
+replace_triple_map-requires-2-clause-size g c =
+    let t0 = c.args.context.now in
+    let l0 = c.args.log.now.steps in
+    let row = c.args.row in
+    let H = set_of t0 3 row in
+    let B = set_of_entries trip_tuple c.args.batch.now in
+    let G = after (grows c.args.change) H B in
+    let a = c.in_ok-first.first in
+    let b = c.in_ok-first.second in
+    let e = c.in_ok-first.third in
+    let t1 = c.open_triples.new.context in
+    let l1 = c.open_triples.new.log.steps in
+    let s1 = starts g.M.Mix.mixed t0 l0 row a b e c.in_ok-first.ensures.first c.in_ok-first.ensures.second c.in_ok-first.ensures.third c.in_ok-first.ensures.edges t1 l1
+    (subst (λ l. (n : Node) × (node_of t0 3 row ≡ Some n) × IsLogged g.M.Mix.mixed t0 t1 l l1 (at_depth 2 (edges_of n)) (at_depth 3 (one_at row)) 0) c.in_ok-reserve.ensures.same c.open_triples.ensures.opened) c.open_triples.ensures.below in
+    let t2 = c.replace_triple_map.new.context in
+    let l2 = c.replace_triple_map.new.log.steps in
+    let n = run_room c.deref.result.now in
+    let s2 = changes_one g.M.Mix.mixed t0 l0 row c.args.change t1 l1 H B 0 a H 1 b H 2 e 0 s1 (set_of_entries trip_tuple c.deref.result.now) (λ k. ap (λ ts. slice nat_cmp (set_of_entries trip_tuple ts) 0 k) c.deref.ensures.value ∙ c.in_ok-by_first.ensures.slices k)
+    t2 l2 c.in_ok-one.one n c.in_ok-one.ensures.logged c.in_ok-one.ensures.changed n (omega arith) in
+    small_after c.args.change t2 2 H B 1 b (set_of_entries trip_tuple c.deref-2.result.now) s2.one (λ k. ap (λ ts. slice nat_cmp (set_of_entries trip_tuple ts) 0 k) c.deref-2.ensures.value ∙ c.in_ok-by_second.ensures.slices k) c.requires.batch.size
+
+pub replace_triple_map-requires-2-clause-held : goal.replace_triple_map-requires-2-clause-held
+replace_triple_map-requires-2-clause-held g c =
+    let t0 = c.args.context.now in
+    let l0 = c.args.log.now.steps in
+    let row = c.args.row in
+    let H = set_of t0 3 row in
+    let B = set_of_entries trip_tuple c.args.batch.now in
+    let G = after (grows c.args.change) H B in
+    let a = c.in_ok-first.first in
+    let b = c.in_ok-first.second in
+    let e = c.in_ok-first.third in
+    let t1 = c.open_triples.new.context in
+    let l1 = c.open_triples.new.log.steps in
+    let s1 = starts g.M.Mix.mixed t0 l0 row a b e c.in_ok-first.ensures.first c.in_ok-first.ensures.second c.in_ok-first.ensures.third c.in_ok-first.ensures.edges t1 l1
+    (subst (λ l. (n : Node) × (node_of t0 3 row ≡ Some n) × IsLogged g.M.Mix.mixed t0 t1 l l1 (at_depth 2 (edges_of n)) (at_depth 3 (one_at row)) 0) c.in_ok-reserve.ensures.same c.open_triples.ensures.opened) c.open_triples.ensures.below in
+    let t2 = c.replace_triple_map.new.context in
+    let l2 = c.replace_triple_map.new.log.steps in
+    let n = run_room c.deref.result.now in
+    let s2 = changes_one g.M.Mix.mixed t0 l0 row c.args.change t1 l1 H B 0 a H 1 b H 2 e 0 s1 (set_of_entries trip_tuple c.deref.result.now) (λ k. ap (λ ts. slice nat_cmp (set_of_entries trip_tuple ts) 0 k) c.deref.ensures.value ∙ c.in_ok-by_first.ensures.slices k)
+    t2 l2 c.in_ok-one.one n c.in_ok-one.ensures.logged c.in_ok-one.ensures.changed n (omega arith) in
+    first_held g.M.Mix.mixed t0 l0 row c.args.change t2 l2 H B 1 b H 2 e G 0 c.in_ok-one.one n s2
+
+pub replace_triple_map-requires-2-clause-room : goal.replace_triple_map-requires-2-clause-room
+replace_triple_map-requires-2-clause-room g c d r =
+    let t0 = c.args.context.now in
+    let l0 = c.args.log.now.steps in
+    let row = c.args.row in
+    let H = set_of t0 3 row in
+    let B = set_of_entries trip_tuple c.args.batch.now in
+    let G = after (grows c.args.change) H B in
+    let a = c.in_ok-first.first in
+    let b = c.in_ok-first.second in
+    let e = c.in_ok-first.third in
+    let t1 = c.open_triples.new.context in
+    let l1 = c.open_triples.new.log.steps in
+    let s1 = starts g.M.Mix.mixed t0 l0 row a b e c.in_ok-first.ensures.first c.in_ok-first.ensures.second c.in_ok-first.ensures.third c.in_ok-first.ensures.edges t1 l1
+    (subst (λ l. (n : Node) × (node_of t0 3 row ≡ Some n) × IsLogged g.M.Mix.mixed t0 t1 l l1 (at_depth 2 (edges_of n)) (at_depth 3 (one_at row)) 0) c.in_ok-reserve.ensures.same c.open_triples.ensures.opened) c.open_triples.ensures.below in
+    let t2 = c.replace_triple_map.new.context in
+    let l2 = c.replace_triple_map.new.log.steps in
+    let n = run_room c.deref.result.now in
+    let s2 = changes_one g.M.Mix.mixed t0 l0 row c.args.change t1 l1 H B 0 a H 1 b H 2 e 0 s1 (set_of_entries trip_tuple c.deref.result.now) (λ k. ap (λ ts. slice nat_cmp (set_of_entries trip_tuple ts) 0 k) c.deref.ensures.value ∙ c.in_ok-by_first.ensures.slices k)
+    t2 l2 c.in_ok-one.one n c.in_ok-one.ensures.logged c.in_ok-one.ensures.changed n (omega arith) in
+    let many0 : length c.deref.result.now ≡ length c.args.batch.now = ap length c.deref.ensures.value ∙ c.in_ok-by_first.ensures.len in
+    let many1 : length c.deref-2.result.now ≡ length c.args.batch.now = ap length c.deref-2.ensures.value ∙ c.in_ok-by_second.ensures.len in
+    omega (arith, c.requires.room d r, s2.logged.counts d r, many0, many1)
+
+pub returns-in_err-by_second-clause-grew : goal.returns-in_err-by_second-clause-grew
+returns-in_err-by_second-clause-grew g c =
+    let t0 = c.args.context.now in
+    let l0 = c.args.log.now.steps in
+    let row = c.args.row in
+    let H = set_of t0 3 row in
+    let B = set_of_entries trip_tuple c.args.batch.now in
+    let G = after (grows c.args.change) H B in
+    let a = c.in_ok-first.first in
+    let b = c.in_ok-first.second in
+    let e = c.in_ok-first.third in
+    let t1 = c.open_triples.new.context in
+    let l1 = c.open_triples.new.log.steps in
+    let s1 = starts g.M.Mix.mixed t0 l0 row a b e c.in_ok-first.ensures.first c.in_ok-first.ensures.second c.in_ok-first.ensures.third c.in_ok-first.ensures.edges t1 l1
+    (subst (λ l. (n : Node) × (node_of t0 3 row ≡ Some n) × IsLogged g.M.Mix.mixed t0 t1 l l1 (at_depth 2 (edges_of n)) (at_depth 3 (one_at row)) 0) c.in_ok-reserve.ensures.same c.open_triples.ensures.opened) c.open_triples.ensures.below in
+    let t2 = c.replace_triple_map.new.context in
+    let l2 = c.replace_triple_map.new.log.steps in
+    let n = run_room c.deref.result.now in
+    let s2 = changes_one g.M.Mix.mixed t0 l0 row c.args.change t1 l1 H B 0 a H 1 b H 2 e 0 s1 (set_of_entries trip_tuple c.deref.result.now) (λ k. ap (λ ts. slice nat_cmp (set_of_entries trip_tuple ts) 0 k) c.deref.ensures.value ∙ c.in_ok-by_first.ensures.slices k)
+    t2 l2 c.in_ok-one.one n c.in_ok-one.ensures.logged c.in_ok-one.ensures.changed n (omega arith) in
+    on_err _ c.from_residual-in_err-by_second.result s2.logged.grew
+
+pub returns-in_err-two-clause-grew : goal.returns-in_err-two-clause-grew
+returns-in_err-two-clause-grew g c =
+    let t0 = c.args.context.now in
+    let l0 = c.args.log.now.steps in
+    let row = c.args.row in
+    let H = set_of t0 3 row in
+    let B = set_of_entries trip_tuple c.args.batch.now in
+    let G = after (grows c.args.change) H B in
+    let a = c.in_ok-first.first in
+    let b = c.in_ok-first.second in
+    let e = c.in_ok-first.third in
+    let t1 = c.open_triples.new.context in
+    let l1 = c.open_triples.new.log.steps in
+    let s1 = starts g.M.Mix.mixed t0 l0 row a b e c.in_ok-first.ensures.first c.in_ok-first.ensures.second c.in_ok-first.ensures.third c.in_ok-first.ensures.edges t1 l1
+    (subst (λ l. (n : Node) × (node_of t0 3 row ≡ Some n) × IsLogged g.M.Mix.mixed t0 t1 l l1 (at_depth 2 (edges_of n)) (at_depth 3 (one_at row)) 0) c.in_ok-reserve.ensures.same c.open_triples.ensures.opened) c.open_triples.ensures.below in
+    let t2 = c.replace_triple_map.new.context in
+    let l2 = c.replace_triple_map.new.log.steps in
+    let n = run_room c.deref.result.now in
+    let s2 = changes_one g.M.Mix.mixed t0 l0 row c.args.change t1 l1 H B 0 a H 1 b H 2 e 0 s1 (set_of_entries trip_tuple c.deref.result.now) (λ k. ap (λ ts. slice nat_cmp (set_of_entries trip_tuple ts) 0 k) c.deref.ensures.value ∙ c.in_ok-by_first.ensures.slices k)
+    t2 l2 c.in_ok-one.one n c.in_ok-one.ensures.logged c.in_ok-one.ensures.changed n (omega arith) in
+    on_err _ c.from_residual-in_err-two.result (grows_on g.M.Mix.mixed t0 t2 c.replace_triple_map-2.new.context l0 l2 c.replace_triple_map-2.new.log.steps s2.logged.grew c.in_err-two.ensures.grew)
+
+pub replace_triple_map-requires-3-clause-entries : goal.replace_triple_map-requires-3-clause-entries
+replace_triple_map-requires-3-clause-entries g c =
+    let t0 = c.args.context.now in
+    let l0 = c.args.log.now.steps in
+    let row = c.args.row in
+    let H = set_of t0 3 row in
+    let B = set_of_entries trip_tuple c.args.batch.now in
+    let G = after (grows c.args.change) H B in
+    let a = c.in_ok-first.first in
+    let b = c.in_ok-first.second in
+    let e = c.in_ok-first.third in
+    let t1 = c.open_triples.new.context in
+    let l1 = c.open_triples.new.log.steps in
+    let s1 = starts g.M.Mix.mixed t0 l0 row a b e c.in_ok-first.ensures.first c.in_ok-first.ensures.second c.in_ok-first.ensures.third c.in_ok-first.ensures.edges t1 l1
+    (subst (λ l. (n : Node) × (node_of t0 3 row ≡ Some n) × IsLogged g.M.Mix.mixed t0 t1 l l1 (at_depth 2 (edges_of n)) (at_depth 3 (one_at row)) 0) c.in_ok-reserve.ensures.same c.open_triples.ensures.opened) c.open_triples.ensures.below in
+    let t2 = c.replace_triple_map.new.context in
+    let l2 = c.replace_triple_map.new.log.steps in
+    let n = run_room c.deref.result.now in
+    let s2 = changes_one g.M.Mix.mixed t0 l0 row c.args.change t1 l1 H B 0 a H 1 b H 2 e 0 s1 (set_of_entries trip_tuple c.deref.result.now) (λ k. ap (λ ts. slice nat_cmp (set_of_entries trip_tuple ts) 0 k) c.deref.ensures.value ∙ c.in_ok-by_first.ensures.slices k)
+    t2 l2 c.in_ok-one.one n c.in_ok-one.ensures.logged c.in_ok-one.ensures.changed n (omega arith) in
+    let t3 = c.replace_triple_map-2.new.context in
+    let l3 = c.replace_triple_map-2.new.log.steps in
+    let m = run_room c.deref-2.result.now in
+    let s3 = changes_one g.M.Mix.mixed t0 l0 row c.args.change t2 l2 H B 1 b H 2 e G 0 c.in_ok-one.one n s2 (set_of_entries trip_tuple c.deref-2.result.now) (λ k. ap (λ ts. slice nat_cmp (set_of_entries trip_tuple ts) 0 k) c.deref-2.ensures.value ∙ c.in_ok-by_second.ensures.slices k)
+    t3 l3 c.in_ok-two.two m c.in_ok-two.ensures.logged c.in_ok-two.ensures.changed (n + m) (omega arith) in
+    may_change g.M.Mix.mixed t0 l0 row c.args.change t3 l3 H B 2 e G 0 c.in_ok-one.one G 1 c.in_ok-two.two (n + m) s3 c.deref-3.result.now (λ k. ap (λ ts. slice nat_cmp (set_of_entries trip_tuple ts) 0 k) c.deref-3.ensures.value ∙ c.in_ok-by_third.ensures.slices k) (search rules) c.requires.batch.change
+
+pub replace_triple_map-requires-3-clause-size : goal.replace_triple_map-requires-3-clause-size
+replace_triple_map-requires-3-clause-size g c =
+    let t0 = c.args.context.now in
+    let l0 = c.args.log.now.steps in
+    let row = c.args.row in
+    let H = set_of t0 3 row in
+    let B = set_of_entries trip_tuple c.args.batch.now in
+    let G = after (grows c.args.change) H B in
+    let a = c.in_ok-first.first in
+    let b = c.in_ok-first.second in
+    let e = c.in_ok-first.third in
+    let t1 = c.open_triples.new.context in
+    let l1 = c.open_triples.new.log.steps in
+    let s1 = starts g.M.Mix.mixed t0 l0 row a b e c.in_ok-first.ensures.first c.in_ok-first.ensures.second c.in_ok-first.ensures.third c.in_ok-first.ensures.edges t1 l1
+    (subst (λ l. (n : Node) × (node_of t0 3 row ≡ Some n) × IsLogged g.M.Mix.mixed t0 t1 l l1 (at_depth 2 (edges_of n)) (at_depth 3 (one_at row)) 0) c.in_ok-reserve.ensures.same c.open_triples.ensures.opened) c.open_triples.ensures.below in
+    let t2 = c.replace_triple_map.new.context in
+    let l2 = c.replace_triple_map.new.log.steps in
+    let n = run_room c.deref.result.now in
+    let s2 = changes_one g.M.Mix.mixed t0 l0 row c.args.change t1 l1 H B 0 a H 1 b H 2 e 0 s1 (set_of_entries trip_tuple c.deref.result.now) (λ k. ap (λ ts. slice nat_cmp (set_of_entries trip_tuple ts) 0 k) c.deref.ensures.value ∙ c.in_ok-by_first.ensures.slices k)
+    t2 l2 c.in_ok-one.one n c.in_ok-one.ensures.logged c.in_ok-one.ensures.changed n (omega arith) in
+    let t3 = c.replace_triple_map-2.new.context in
+    let l3 = c.replace_triple_map-2.new.log.steps in
+    let m = run_room c.deref-2.result.now in
+    let s3 = changes_one g.M.Mix.mixed t0 l0 row c.args.change t2 l2 H B 1 b H 2 e G 0 c.in_ok-one.one n s2 (set_of_entries trip_tuple c.deref-2.result.now) (λ k. ap (λ ts. slice nat_cmp (set_of_entries trip_tuple ts) 0 k) c.deref-2.ensures.value ∙ c.in_ok-by_second.ensures.slices k)
+    t3 l3 c.in_ok-two.two m c.in_ok-two.ensures.logged c.in_ok-two.ensures.changed (n + m) (omega arith) in
+    small_after c.args.change t3 2 H B 2 e (set_of_entries trip_tuple c.deref-3.result.now) s3.one (λ k. ap (λ ts. slice nat_cmp (set_of_entries trip_tuple ts) 0 k) c.deref-3.ensures.value ∙ c.in_ok-by_third.ensures.slices k) c.requires.batch.size
+
+pub replace_triple_map-requires-3-clause-held : goal.replace_triple_map-requires-3-clause-held
+replace_triple_map-requires-3-clause-held g c =
+    let t0 = c.args.context.now in
+    let l0 = c.args.log.now.steps in
+    let row = c.args.row in
+    let H = set_of t0 3 row in
+    let B = set_of_entries trip_tuple c.args.batch.now in
+    let G = after (grows c.args.change) H B in
+    let a = c.in_ok-first.first in
+    let b = c.in_ok-first.second in
+    let e = c.in_ok-first.third in
+    let t1 = c.open_triples.new.context in
+    let l1 = c.open_triples.new.log.steps in
+    let s1 = starts g.M.Mix.mixed t0 l0 row a b e c.in_ok-first.ensures.first c.in_ok-first.ensures.second c.in_ok-first.ensures.third c.in_ok-first.ensures.edges t1 l1
+    (subst (λ l. (n : Node) × (node_of t0 3 row ≡ Some n) × IsLogged g.M.Mix.mixed t0 t1 l l1 (at_depth 2 (edges_of n)) (at_depth 3 (one_at row)) 0) c.in_ok-reserve.ensures.same c.open_triples.ensures.opened) c.open_triples.ensures.below in
+    let t2 = c.replace_triple_map.new.context in
+    let l2 = c.replace_triple_map.new.log.steps in
+    let n = run_room c.deref.result.now in
+    let s2 = changes_one g.M.Mix.mixed t0 l0 row c.args.change t1 l1 H B 0 a H 1 b H 2 e 0 s1 (set_of_entries trip_tuple c.deref.result.now) (λ k. ap (λ ts. slice nat_cmp (set_of_entries trip_tuple ts) 0 k) c.deref.ensures.value ∙ c.in_ok-by_first.ensures.slices k)
+    t2 l2 c.in_ok-one.one n c.in_ok-one.ensures.logged c.in_ok-one.ensures.changed n (omega arith) in
+    let t3 = c.replace_triple_map-2.new.context in
+    let l3 = c.replace_triple_map-2.new.log.steps in
+    let m = run_room c.deref-2.result.now in
+    let s3 = changes_one g.M.Mix.mixed t0 l0 row c.args.change t2 l2 H B 1 b H 2 e G 0 c.in_ok-one.one n s2 (set_of_entries trip_tuple c.deref-2.result.now) (λ k. ap (λ ts. slice nat_cmp (set_of_entries trip_tuple ts) 0 k) c.deref-2.ensures.value ∙ c.in_ok-by_second.ensures.slices k)
+    t3 l3 c.in_ok-two.two m c.in_ok-two.ensures.logged c.in_ok-two.ensures.changed (n + m) (omega arith) in
+    first_held g.M.Mix.mixed t0 l0 row c.args.change t3 l3 H B 2 e G 0 c.in_ok-one.one G 1 c.in_ok-two.two (n + m) s3
+
+pub replace_triple_map-requires-3-clause-room : goal.replace_triple_map-requires-3-clause-room
+replace_triple_map-requires-3-clause-room g c d r =
+    let t0 = c.args.context.now in
+    let l0 = c.args.log.now.steps in
+    let row = c.args.row in
+    let H = set_of t0 3 row in
+    let B = set_of_entries trip_tuple c.args.batch.now in
+    let G = after (grows c.args.change) H B in
+    let a = c.in_ok-first.first in
+    let b = c.in_ok-first.second in
+    let e = c.in_ok-first.third in
+    let t1 = c.open_triples.new.context in
+    let l1 = c.open_triples.new.log.steps in
+    let s1 = starts g.M.Mix.mixed t0 l0 row a b e c.in_ok-first.ensures.first c.in_ok-first.ensures.second c.in_ok-first.ensures.third c.in_ok-first.ensures.edges t1 l1
+    (subst (λ l. (n : Node) × (node_of t0 3 row ≡ Some n) × IsLogged g.M.Mix.mixed t0 t1 l l1 (at_depth 2 (edges_of n)) (at_depth 3 (one_at row)) 0) c.in_ok-reserve.ensures.same c.open_triples.ensures.opened) c.open_triples.ensures.below in
+    let t2 = c.replace_triple_map.new.context in
+    let l2 = c.replace_triple_map.new.log.steps in
+    let n = run_room c.deref.result.now in
+    let s2 = changes_one g.M.Mix.mixed t0 l0 row c.args.change t1 l1 H B 0 a H 1 b H 2 e 0 s1 (set_of_entries trip_tuple c.deref.result.now) (λ k. ap (λ ts. slice nat_cmp (set_of_entries trip_tuple ts) 0 k) c.deref.ensures.value ∙ c.in_ok-by_first.ensures.slices k)
+    t2 l2 c.in_ok-one.one n c.in_ok-one.ensures.logged c.in_ok-one.ensures.changed n (omega arith) in
+    let t3 = c.replace_triple_map-2.new.context in
+    let l3 = c.replace_triple_map-2.new.log.steps in
+    let m = run_room c.deref-2.result.now in
+    let s3 = changes_one g.M.Mix.mixed t0 l0 row c.args.change t2 l2 H B 1 b H 2 e G 0 c.in_ok-one.one n s2 (set_of_entries trip_tuple c.deref-2.result.now) (λ k. ap (λ ts. slice nat_cmp (set_of_entries trip_tuple ts) 0 k) c.deref-2.ensures.value ∙ c.in_ok-by_second.ensures.slices k)
+    t3 l3 c.in_ok-two.two m c.in_ok-two.ensures.logged c.in_ok-two.ensures.changed (n + m) (omega arith) in
+    let many0 : length c.deref.result.now ≡ length c.args.batch.now = ap length c.deref.ensures.value ∙ c.in_ok-by_first.ensures.len in
+    let many1 : length c.deref-2.result.now ≡ length c.args.batch.now = ap length c.deref-2.ensures.value ∙ c.in_ok-by_second.ensures.len in
+    let many2 : length c.deref-3.result.now ≡ length c.args.batch.now = ap length c.deref-3.ensures.value ∙ c.in_ok-by_third.ensures.len in
+    omega (arith, c.requires.room d r, s3.logged.counts d r, many0, many1, many2)
+
+pub returns-in_err-by_third-clause-grew : goal.returns-in_err-by_third-clause-grew
+returns-in_err-by_third-clause-grew g c =
+    let t0 = c.args.context.now in
+    let l0 = c.args.log.now.steps in
+    let row = c.args.row in
+    let H = set_of t0 3 row in
+    let B = set_of_entries trip_tuple c.args.batch.now in
+    let G = after (grows c.args.change) H B in
+    let a = c.in_ok-first.first in
+    let b = c.in_ok-first.second in
+    let e = c.in_ok-first.third in
+    let t1 = c.open_triples.new.context in
+    let l1 = c.open_triples.new.log.steps in
+    let s1 = starts g.M.Mix.mixed t0 l0 row a b e c.in_ok-first.ensures.first c.in_ok-first.ensures.second c.in_ok-first.ensures.third c.in_ok-first.ensures.edges t1 l1
+    (subst (λ l. (n : Node) × (node_of t0 3 row ≡ Some n) × IsLogged g.M.Mix.mixed t0 t1 l l1 (at_depth 2 (edges_of n)) (at_depth 3 (one_at row)) 0) c.in_ok-reserve.ensures.same c.open_triples.ensures.opened) c.open_triples.ensures.below in
+    let t2 = c.replace_triple_map.new.context in
+    let l2 = c.replace_triple_map.new.log.steps in
+    let n = run_room c.deref.result.now in
+    let s2 = changes_one g.M.Mix.mixed t0 l0 row c.args.change t1 l1 H B 0 a H 1 b H 2 e 0 s1 (set_of_entries trip_tuple c.deref.result.now) (λ k. ap (λ ts. slice nat_cmp (set_of_entries trip_tuple ts) 0 k) c.deref.ensures.value ∙ c.in_ok-by_first.ensures.slices k)
+    t2 l2 c.in_ok-one.one n c.in_ok-one.ensures.logged c.in_ok-one.ensures.changed n (omega arith) in
+    let t3 = c.replace_triple_map-2.new.context in
+    let l3 = c.replace_triple_map-2.new.log.steps in
+    let m = run_room c.deref-2.result.now in
+    let s3 = changes_one g.M.Mix.mixed t0 l0 row c.args.change t2 l2 H B 1 b H 2 e G 0 c.in_ok-one.one n s2 (set_of_entries trip_tuple c.deref-2.result.now) (λ k. ap (λ ts. slice nat_cmp (set_of_entries trip_tuple ts) 0 k) c.deref-2.ensures.value ∙ c.in_ok-by_second.ensures.slices k)
+    t3 l3 c.in_ok-two.two m c.in_ok-two.ensures.logged c.in_ok-two.ensures.changed (n + m) (omega arith) in
+    on_err _ c.from_residual-in_err-by_third.result s3.logged.grew
+
+pub returns-in_err-three-clause-grew : goal.returns-in_err-three-clause-grew
+returns-in_err-three-clause-grew g c =
+    let t0 = c.args.context.now in
+    let l0 = c.args.log.now.steps in
+    let row = c.args.row in
+    let H = set_of t0 3 row in
+    let B = set_of_entries trip_tuple c.args.batch.now in
+    let G = after (grows c.args.change) H B in
+    let a = c.in_ok-first.first in
+    let b = c.in_ok-first.second in
+    let e = c.in_ok-first.third in
+    let t1 = c.open_triples.new.context in
+    let l1 = c.open_triples.new.log.steps in
+    let s1 = starts g.M.Mix.mixed t0 l0 row a b e c.in_ok-first.ensures.first c.in_ok-first.ensures.second c.in_ok-first.ensures.third c.in_ok-first.ensures.edges t1 l1
+    (subst (λ l. (n : Node) × (node_of t0 3 row ≡ Some n) × IsLogged g.M.Mix.mixed t0 t1 l l1 (at_depth 2 (edges_of n)) (at_depth 3 (one_at row)) 0) c.in_ok-reserve.ensures.same c.open_triples.ensures.opened) c.open_triples.ensures.below in
+    let t2 = c.replace_triple_map.new.context in
+    let l2 = c.replace_triple_map.new.log.steps in
+    let n = run_room c.deref.result.now in
+    let s2 = changes_one g.M.Mix.mixed t0 l0 row c.args.change t1 l1 H B 0 a H 1 b H 2 e 0 s1 (set_of_entries trip_tuple c.deref.result.now) (λ k. ap (λ ts. slice nat_cmp (set_of_entries trip_tuple ts) 0 k) c.deref.ensures.value ∙ c.in_ok-by_first.ensures.slices k)
+    t2 l2 c.in_ok-one.one n c.in_ok-one.ensures.logged c.in_ok-one.ensures.changed n (omega arith) in
+    let t3 = c.replace_triple_map-2.new.context in
+    let l3 = c.replace_triple_map-2.new.log.steps in
+    let m = run_room c.deref-2.result.now in
+    let s3 = changes_one g.M.Mix.mixed t0 l0 row c.args.change t2 l2 H B 1 b H 2 e G 0 c.in_ok-one.one n s2 (set_of_entries trip_tuple c.deref-2.result.now) (λ k. ap (λ ts. slice nat_cmp (set_of_entries trip_tuple ts) 0 k) c.deref-2.ensures.value ∙ c.in_ok-by_second.ensures.slices k)
+    t3 l3 c.in_ok-two.two m c.in_ok-two.ensures.logged c.in_ok-two.ensures.changed (n + m) (omega arith) in
+    on_err _ c.from_residual-in_err-three.result (grows_on g.M.Mix.mixed t0 t3 c.replace_triple_map-3.new.context l0 l3 c.replace_triple_map-3.new.log.steps s3.logged.grew c.in_err-three.ensures.grew)
+
+pub store_triples-requires-clause-form : goal.store_triples-requires-clause-form
+store_triples-requires-clause-form g c =
+    let t0 = c.args.context.now in
+    let l0 = c.args.log.now.steps in
+    let row = c.args.row in
+    let H = set_of t0 3 row in
+    let B = set_of_entries trip_tuple c.args.batch.now in
+    let G = after (grows c.args.change) H B in
+    let a = c.in_ok-first.first in
+    let b = c.in_ok-first.second in
+    let e = c.in_ok-first.third in
+    let t1 = c.open_triples.new.context in
+    let l1 = c.open_triples.new.log.steps in
+    let s1 = starts g.M.Mix.mixed t0 l0 row a b e c.in_ok-first.ensures.first c.in_ok-first.ensures.second c.in_ok-first.ensures.third c.in_ok-first.ensures.edges t1 l1
+    (subst (λ l. (n : Node) × (node_of t0 3 row ≡ Some n) × IsLogged g.M.Mix.mixed t0 t1 l l1 (at_depth 2 (edges_of n)) (at_depth 3 (one_at row)) 0) c.in_ok-reserve.ensures.same c.open_triples.ensures.opened) c.open_triples.ensures.below in
+    let t2 = c.replace_triple_map.new.context in
+    let l2 = c.replace_triple_map.new.log.steps in
+    let n = run_room c.deref.result.now in
+    let s2 = changes_one g.M.Mix.mixed t0 l0 row c.args.change t1 l1 H B 0 a H 1 b H 2 e 0 s1 (set_of_entries trip_tuple c.deref.result.now) (λ k. ap (λ ts. slice nat_cmp (set_of_entries trip_tuple ts) 0 k) c.deref.ensures.value ∙ c.in_ok-by_first.ensures.slices k)
+    t2 l2 c.in_ok-one.one n c.in_ok-one.ensures.logged c.in_ok-one.ensures.changed n (omega arith) in
+    let t3 = c.replace_triple_map-2.new.context in
+    let l3 = c.replace_triple_map-2.new.log.steps in
+    let m = run_room c.deref-2.result.now in
+    let s3 = changes_one g.M.Mix.mixed t0 l0 row c.args.change t2 l2 H B 1 b H 2 e G 0 c.in_ok-one.one n s2 (set_of_entries trip_tuple c.deref-2.result.now) (λ k. ap (λ ts. slice nat_cmp (set_of_entries trip_tuple ts) 0 k) c.deref-2.ensures.value ∙ c.in_ok-by_second.ensures.slices k)
+    t3 l3 c.in_ok-two.two m c.in_ok-two.ensures.logged c.in_ok-two.ensures.changed (n + m) (omega arith) in
+    let t4 = c.replace_triple_map-3.new.context in
+    let l4 = c.replace_triple_map-3.new.log.steps in
+    let k = run_room c.deref-3.result.now in
+    let s4 = changes_one g.M.Mix.mixed t0 l0 row c.args.change t3 l3 H B 2 e G 0 c.in_ok-one.one G 1 c.in_ok-two.two (n + m) s3 (set_of_entries trip_tuple c.deref-3.result.now) (λ k. ap (λ ts. slice nat_cmp (set_of_entries trip_tuple ts) 0 k) c.deref-3.ensures.value ∙ c.in_ok-by_third.ensures.slices k)
+    t4 l4 c.in_ok-three.three k c.in_ok-three.ensures.logged c.in_ok-three.ensures.changed (n + m + k) (omega arith) in
+    let parts = are_parts c.is_kept.ensures c.args.change (Some row) c.args.batch.now c.requires.batch.once c.requires.batch.change t4 c.triple_figures-size.result.0 c.triple_figures-size.result.1 c.changed_size-size.result c.toggled_triples-hash.result c.in_ok-one.one c.in_ok-two.two c.in_ok-three.three
+    c.triple_figures-size.ensures.size c.triple_figures-size.ensures.hash c.changed_size-size.ensures c.toggled_triples-hash.ensures s4.one s4.two s4.three in
+    full_form t4 parts (subst (λ s. 2 ≤ s) (sym parts.sized) c.requires.left)
+
+pub store_triples-requires-clause-held : goal.store_triples-requires-clause-held
+store_triples-requires-clause-held g c =
+    let t0 = c.args.context.now in
+    let l0 = c.args.log.now.steps in
+    let row = c.args.row in
+    let H = set_of t0 3 row in
+    let B = set_of_entries trip_tuple c.args.batch.now in
+    let G = after (grows c.args.change) H B in
+    let a = c.in_ok-first.first in
+    let b = c.in_ok-first.second in
+    let e = c.in_ok-first.third in
+    let t1 = c.open_triples.new.context in
+    let l1 = c.open_triples.new.log.steps in
+    let s1 = starts g.M.Mix.mixed t0 l0 row a b e c.in_ok-first.ensures.first c.in_ok-first.ensures.second c.in_ok-first.ensures.third c.in_ok-first.ensures.edges t1 l1
+    (subst (λ l. (n : Node) × (node_of t0 3 row ≡ Some n) × IsLogged g.M.Mix.mixed t0 t1 l l1 (at_depth 2 (edges_of n)) (at_depth 3 (one_at row)) 0) c.in_ok-reserve.ensures.same c.open_triples.ensures.opened) c.open_triples.ensures.below in
+    let t2 = c.replace_triple_map.new.context in
+    let l2 = c.replace_triple_map.new.log.steps in
+    let n = run_room c.deref.result.now in
+    let s2 = changes_one g.M.Mix.mixed t0 l0 row c.args.change t1 l1 H B 0 a H 1 b H 2 e 0 s1 (set_of_entries trip_tuple c.deref.result.now) (λ k. ap (λ ts. slice nat_cmp (set_of_entries trip_tuple ts) 0 k) c.deref.ensures.value ∙ c.in_ok-by_first.ensures.slices k)
+    t2 l2 c.in_ok-one.one n c.in_ok-one.ensures.logged c.in_ok-one.ensures.changed n (omega arith) in
+    let t3 = c.replace_triple_map-2.new.context in
+    let l3 = c.replace_triple_map-2.new.log.steps in
+    let m = run_room c.deref-2.result.now in
+    let s3 = changes_one g.M.Mix.mixed t0 l0 row c.args.change t2 l2 H B 1 b H 2 e G 0 c.in_ok-one.one n s2 (set_of_entries trip_tuple c.deref-2.result.now) (λ k. ap (λ ts. slice nat_cmp (set_of_entries trip_tuple ts) 0 k) c.deref-2.ensures.value ∙ c.in_ok-by_second.ensures.slices k)
+    t3 l3 c.in_ok-two.two m c.in_ok-two.ensures.logged c.in_ok-two.ensures.changed (n + m) (omega arith) in
+    let t4 = c.replace_triple_map-3.new.context in
+    let l4 = c.replace_triple_map-3.new.log.steps in
+    let k = run_room c.deref-3.result.now in
+    let s4 = changes_one g.M.Mix.mixed t0 l0 row c.args.change t3 l3 H B 2 e G 0 c.in_ok-one.one G 1 c.in_ok-two.two (n + m) s3 (set_of_entries trip_tuple c.deref-3.result.now) (λ k. ap (λ ts. slice nat_cmp (set_of_entries trip_tuple ts) 0 k) c.deref-3.ensures.value ∙ c.in_ok-by_third.ensures.slices k)
+    t4 l4 c.in_ok-three.three k c.in_ok-three.ensures.logged c.in_ok-three.ensures.changed (n + m + k) (omega arith) in
+    let node = Full c.changed_size-size.result c.toggled_triples-hash.result c.in_ok-one.one c.in_ok-two.two c.in_ok-three.three in
+    node_held g.M.Mix.mixed t0 l0 row t4 l4 G c.in_ok-one.one c.in_ok-two.two c.in_ok-three.three (n + m + k) s4 node (λ r. refl)
+
+pub store_triples-requires-clause-room : goal.store_triples-requires-clause-room
+store_triples-requires-clause-room g c d r =
+    let t0 = c.args.context.now in
+    let l0 = c.args.log.now.steps in
+    let row = c.args.row in
+    let H = set_of t0 3 row in
+    let B = set_of_entries trip_tuple c.args.batch.now in
+    let G = after (grows c.args.change) H B in
+    let a = c.in_ok-first.first in
+    let b = c.in_ok-first.second in
+    let e = c.in_ok-first.third in
+    let t1 = c.open_triples.new.context in
+    let l1 = c.open_triples.new.log.steps in
+    let s1 = starts g.M.Mix.mixed t0 l0 row a b e c.in_ok-first.ensures.first c.in_ok-first.ensures.second c.in_ok-first.ensures.third c.in_ok-first.ensures.edges t1 l1
+    (subst (λ l. (n : Node) × (node_of t0 3 row ≡ Some n) × IsLogged g.M.Mix.mixed t0 t1 l l1 (at_depth 2 (edges_of n)) (at_depth 3 (one_at row)) 0) c.in_ok-reserve.ensures.same c.open_triples.ensures.opened) c.open_triples.ensures.below in
+    let t2 = c.replace_triple_map.new.context in
+    let l2 = c.replace_triple_map.new.log.steps in
+    let n = run_room c.deref.result.now in
+    let s2 = changes_one g.M.Mix.mixed t0 l0 row c.args.change t1 l1 H B 0 a H 1 b H 2 e 0 s1 (set_of_entries trip_tuple c.deref.result.now) (λ k. ap (λ ts. slice nat_cmp (set_of_entries trip_tuple ts) 0 k) c.deref.ensures.value ∙ c.in_ok-by_first.ensures.slices k)
+    t2 l2 c.in_ok-one.one n c.in_ok-one.ensures.logged c.in_ok-one.ensures.changed n (omega arith) in
+    let t3 = c.replace_triple_map-2.new.context in
+    let l3 = c.replace_triple_map-2.new.log.steps in
+    let m = run_room c.deref-2.result.now in
+    let s3 = changes_one g.M.Mix.mixed t0 l0 row c.args.change t2 l2 H B 1 b H 2 e G 0 c.in_ok-one.one n s2 (set_of_entries trip_tuple c.deref-2.result.now) (λ k. ap (λ ts. slice nat_cmp (set_of_entries trip_tuple ts) 0 k) c.deref-2.ensures.value ∙ c.in_ok-by_second.ensures.slices k)
+    t3 l3 c.in_ok-two.two m c.in_ok-two.ensures.logged c.in_ok-two.ensures.changed (n + m) (omega arith) in
+    let t4 = c.replace_triple_map-3.new.context in
+    let l4 = c.replace_triple_map-3.new.log.steps in
+    let k = run_room c.deref-3.result.now in
+    let s4 = changes_one g.M.Mix.mixed t0 l0 row c.args.change t3 l3 H B 2 e G 0 c.in_ok-one.one G 1 c.in_ok-two.two (n + m) s3 (set_of_entries trip_tuple c.deref-3.result.now) (λ k. ap (λ ts. slice nat_cmp (set_of_entries trip_tuple ts) 0 k) c.deref-3.ensures.value ∙ c.in_ok-by_third.ensures.slices k)
+    t4 l4 c.in_ok-three.three k c.in_ok-three.ensures.logged c.in_ok-three.ensures.changed (n + m + k) (omega arith) in
+    let many0 : length c.deref.result.now ≡ length c.args.batch.now = ap length c.deref.ensures.value ∙ c.in_ok-by_first.ensures.len in
+    let many1 : length c.deref-2.result.now ≡ length c.args.batch.now = ap length c.deref-2.ensures.value ∙ c.in_ok-by_second.ensures.len in
+    let many2 : length c.deref-3.result.now ≡ length c.args.batch.now = ap length c.deref-3.ensures.value ∙ c.in_ok-by_third.ensures.len in
+    omega (arith, c.requires.room d r, s4.logged.counts d r, many0, many1, many2)
+
+pub returns-clause-set : goal.returns-clause-set
+returns-clause-set g c =
+    let t0 = c.args.context.now in
+    let l0 = c.args.log.now.steps in
+    let row = c.args.row in
+    let H = set_of t0 3 row in
+    let B = set_of_entries trip_tuple c.args.batch.now in
+    let G = after (grows c.args.change) H B in
+    let a = c.in_ok-first.first in
+    let b = c.in_ok-first.second in
+    let e = c.in_ok-first.third in
+    let t1 = c.open_triples.new.context in
+    let l1 = c.open_triples.new.log.steps in
+    let s1 = starts g.M.Mix.mixed t0 l0 row a b e c.in_ok-first.ensures.first c.in_ok-first.ensures.second c.in_ok-first.ensures.third c.in_ok-first.ensures.edges t1 l1
+    (subst (λ l. (n : Node) × (node_of t0 3 row ≡ Some n) × IsLogged g.M.Mix.mixed t0 t1 l l1 (at_depth 2 (edges_of n)) (at_depth 3 (one_at row)) 0) c.in_ok-reserve.ensures.same c.open_triples.ensures.opened) c.open_triples.ensures.below in
+    let t2 = c.replace_triple_map.new.context in
+    let l2 = c.replace_triple_map.new.log.steps in
+    let n = run_room c.deref.result.now in
+    let s2 = changes_one g.M.Mix.mixed t0 l0 row c.args.change t1 l1 H B 0 a H 1 b H 2 e 0 s1 (set_of_entries trip_tuple c.deref.result.now) (λ k. ap (λ ts. slice nat_cmp (set_of_entries trip_tuple ts) 0 k) c.deref.ensures.value ∙ c.in_ok-by_first.ensures.slices k)
+    t2 l2 c.in_ok-one.one n c.in_ok-one.ensures.logged c.in_ok-one.ensures.changed n (omega arith) in
+    let t3 = c.replace_triple_map-2.new.context in
+    let l3 = c.replace_triple_map-2.new.log.steps in
+    let m = run_room c.deref-2.result.now in
+    let s3 = changes_one g.M.Mix.mixed t0 l0 row c.args.change t2 l2 H B 1 b H 2 e G 0 c.in_ok-one.one n s2 (set_of_entries trip_tuple c.deref-2.result.now) (λ k. ap (λ ts. slice nat_cmp (set_of_entries trip_tuple ts) 0 k) c.deref-2.ensures.value ∙ c.in_ok-by_second.ensures.slices k)
+    t3 l3 c.in_ok-two.two m c.in_ok-two.ensures.logged c.in_ok-two.ensures.changed (n + m) (omega arith) in
+    let t4 = c.replace_triple_map-3.new.context in
+    let l4 = c.replace_triple_map-3.new.log.steps in
+    let k = run_room c.deref-3.result.now in
+    let s4 = changes_one g.M.Mix.mixed t0 l0 row c.args.change t3 l3 H B 2 e G 0 c.in_ok-one.one G 1 c.in_ok-two.two (n + m) s3 (set_of_entries trip_tuple c.deref-3.result.now) (λ k. ap (λ ts. slice nat_cmp (set_of_entries trip_tuple ts) 0 k) c.deref-3.ensures.value ∙ c.in_ok-by_third.ensures.slices k)
+    t4 l4 c.in_ok-three.three k c.in_ok-three.ensures.logged c.in_ok-three.ensures.changed (n + m + k) (omega arith) in
+    let parts = are_parts c.is_kept.ensures c.args.change (Some row) c.args.batch.now c.requires.batch.once c.requires.batch.change t4 c.triple_figures-size.result.0 c.triple_figures-size.result.1 c.changed_size-size.result c.toggled_triples-hash.result c.in_ok-one.one c.in_ok-two.two c.in_ok-three.three
+    c.triple_figures-size.ensures.size c.triple_figures-size.ensures.hash c.changed_size-size.ensures c.toggled_triples-hash.ensures s4.one s4.two s4.three in
+    subst (λ S. IfOk c.store_triples.result (λ root. root_set c.store_triples.new.context root ≡ S)) (whole_is t4 parts) c.store_triples.ensures.set
+
+pub returns-clause-logged : goal.returns-clause-logged
+returns-clause-logged g c =
+    let t0 = c.args.context.now in
+    let l0 = c.args.log.now.steps in
+    let row = c.args.row in
+    let H = set_of t0 3 row in
+    let B = set_of_entries trip_tuple c.args.batch.now in
+    let G = after (grows c.args.change) H B in
+    let a = c.in_ok-first.first in
+    let b = c.in_ok-first.second in
+    let e = c.in_ok-first.third in
+    let t1 = c.open_triples.new.context in
+    let l1 = c.open_triples.new.log.steps in
+    let s1 = starts g.M.Mix.mixed t0 l0 row a b e c.in_ok-first.ensures.first c.in_ok-first.ensures.second c.in_ok-first.ensures.third c.in_ok-first.ensures.edges t1 l1
+    (subst (λ l. (n : Node) × (node_of t0 3 row ≡ Some n) × IsLogged g.M.Mix.mixed t0 t1 l l1 (at_depth 2 (edges_of n)) (at_depth 3 (one_at row)) 0) c.in_ok-reserve.ensures.same c.open_triples.ensures.opened) c.open_triples.ensures.below in
+    let t2 = c.replace_triple_map.new.context in
+    let l2 = c.replace_triple_map.new.log.steps in
+    let n = run_room c.deref.result.now in
+    let s2 = changes_one g.M.Mix.mixed t0 l0 row c.args.change t1 l1 H B 0 a H 1 b H 2 e 0 s1 (set_of_entries trip_tuple c.deref.result.now) (λ k. ap (λ ts. slice nat_cmp (set_of_entries trip_tuple ts) 0 k) c.deref.ensures.value ∙ c.in_ok-by_first.ensures.slices k)
+    t2 l2 c.in_ok-one.one n c.in_ok-one.ensures.logged c.in_ok-one.ensures.changed n (omega arith) in
+    let t3 = c.replace_triple_map-2.new.context in
+    let l3 = c.replace_triple_map-2.new.log.steps in
+    let m = run_room c.deref-2.result.now in
+    let s3 = changes_one g.M.Mix.mixed t0 l0 row c.args.change t2 l2 H B 1 b H 2 e G 0 c.in_ok-one.one n s2 (set_of_entries trip_tuple c.deref-2.result.now) (λ k. ap (λ ts. slice nat_cmp (set_of_entries trip_tuple ts) 0 k) c.deref-2.ensures.value ∙ c.in_ok-by_second.ensures.slices k)
+    t3 l3 c.in_ok-two.two m c.in_ok-two.ensures.logged c.in_ok-two.ensures.changed (n + m) (omega arith) in
+    let t4 = c.replace_triple_map-3.new.context in
+    let l4 = c.replace_triple_map-3.new.log.steps in
+    let k = run_room c.deref-3.result.now in
+    let s4 = changes_one g.M.Mix.mixed t0 l0 row c.args.change t3 l3 H B 2 e G 0 c.in_ok-one.one G 1 c.in_ok-two.two (n + m) s3 (set_of_entries trip_tuple c.deref-3.result.now) (λ k. ap (λ ts. slice nat_cmp (set_of_entries trip_tuple ts) 0 k) c.deref-3.ensures.value ∙ c.in_ok-by_third.ensures.slices k)
+    t4 l4 c.in_ok-three.three k c.in_ok-three.ensures.logged c.in_ok-three.ensures.changed (n + m + k) (omega arith) in
+    let many0 : length c.deref.result.now ≡ length c.args.batch.now = ap length c.deref.ensures.value ∙ c.in_ok-by_first.ensures.len in
+    let many1 : length c.deref-2.result.now ≡ length c.args.batch.now = ap length c.deref-2.ensures.value ∙ c.in_ok-by_second.ensures.len in
+    let many2 : length c.deref-3.result.now ≡ length c.args.batch.now = ap length c.deref-3.ensures.value ∙ c.in_ok-by_third.ensures.len in
+    let node = Full c.changed_size-size.result c.toggled_triples-hash.result c.in_ok-one.one c.in_ok-two.two c.in_ok-three.three in
+    if_ok (λ root. IsLogged g.M.Mix.mixed t4 c.store_triples.new.context l4 c.store_triples.new.log.steps (root_hold root) (at_depth 2 (edges_of node)) 1)
+    (λ root. IsLogged g.M.Mix.mixed t0 c.store_triples.new.context l0 c.store_triples.new.log.steps (root_hold root) (at_depth 3 (one_at row)) (graph_room c.args.batch.now)) c.store_triples.result
+    (λ root now. stored g.M.Mix.mixed t0 l0 row t4 l4 G c.in_ok-one.one c.in_ok-two.two c.in_ok-three.three (n + m + k) s4 node (λ r. refl) c.store_triples.new.context c.store_triples.new.log.steps root 1 now (graph_room c.args.batch.now) (omega (arith, many0, many1, many2)))
+    c.store_triples.ensures.logged
+
+pub returns-clause-grew : goal.returns-clause-grew
+returns-clause-grew g c =
+    let t0 = c.args.context.now in
+    let l0 = c.args.log.now.steps in
+    let row = c.args.row in
+    let H = set_of t0 3 row in
+    let B = set_of_entries trip_tuple c.args.batch.now in
+    let G = after (grows c.args.change) H B in
+    let a = c.in_ok-first.first in
+    let b = c.in_ok-first.second in
+    let e = c.in_ok-first.third in
+    let t1 = c.open_triples.new.context in
+    let l1 = c.open_triples.new.log.steps in
+    let s1 = starts g.M.Mix.mixed t0 l0 row a b e c.in_ok-first.ensures.first c.in_ok-first.ensures.second c.in_ok-first.ensures.third c.in_ok-first.ensures.edges t1 l1
+    (subst (λ l. (n : Node) × (node_of t0 3 row ≡ Some n) × IsLogged g.M.Mix.mixed t0 t1 l l1 (at_depth 2 (edges_of n)) (at_depth 3 (one_at row)) 0) c.in_ok-reserve.ensures.same c.open_triples.ensures.opened) c.open_triples.ensures.below in
+    let t2 = c.replace_triple_map.new.context in
+    let l2 = c.replace_triple_map.new.log.steps in
+    let n = run_room c.deref.result.now in
+    let s2 = changes_one g.M.Mix.mixed t0 l0 row c.args.change t1 l1 H B 0 a H 1 b H 2 e 0 s1 (set_of_entries trip_tuple c.deref.result.now) (λ k. ap (λ ts. slice nat_cmp (set_of_entries trip_tuple ts) 0 k) c.deref.ensures.value ∙ c.in_ok-by_first.ensures.slices k)
+    t2 l2 c.in_ok-one.one n c.in_ok-one.ensures.logged c.in_ok-one.ensures.changed n (omega arith) in
+    let t3 = c.replace_triple_map-2.new.context in
+    let l3 = c.replace_triple_map-2.new.log.steps in
+    let m = run_room c.deref-2.result.now in
+    let s3 = changes_one g.M.Mix.mixed t0 l0 row c.args.change t2 l2 H B 1 b H 2 e G 0 c.in_ok-one.one n s2 (set_of_entries trip_tuple c.deref-2.result.now) (λ k. ap (λ ts. slice nat_cmp (set_of_entries trip_tuple ts) 0 k) c.deref-2.ensures.value ∙ c.in_ok-by_second.ensures.slices k)
+    t3 l3 c.in_ok-two.two m c.in_ok-two.ensures.logged c.in_ok-two.ensures.changed (n + m) (omega arith) in
+    let t4 = c.replace_triple_map-3.new.context in
+    let l4 = c.replace_triple_map-3.new.log.steps in
+    let k = run_room c.deref-3.result.now in
+    let s4 = changes_one g.M.Mix.mixed t0 l0 row c.args.change t3 l3 H B 2 e G 0 c.in_ok-one.one G 1 c.in_ok-two.two (n + m) s3 (set_of_entries trip_tuple c.deref-3.result.now) (λ k. ap (λ ts. slice nat_cmp (set_of_entries trip_tuple ts) 0 k) c.deref-3.ensures.value ∙ c.in_ok-by_third.ensures.slices k)
+    t4 l4 c.in_ok-three.three k c.in_ok-three.ensures.logged c.in_ok-three.ensures.changed (n + m + k) (omega arith) in
+    err_then (Grows g.M.Mix.mixed t4 c.store_triples.new.context l4 c.store_triples.new.log.steps) (Grows g.M.Mix.mixed t0 c.store_triples.new.context l0 c.store_triples.new.log.steps) c.store_triples.result
+    (grows_on g.M.Mix.mixed t0 t4 c.store_triples.new.context l0 l4 c.store_triples.new.log.steps s4.logged.grew) c.store_triples.ensures.grew
+

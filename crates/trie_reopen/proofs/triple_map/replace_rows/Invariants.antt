@@ -1,0 +1,16 @@
+use Rattle.std.proofs.Common.{◌+◌, ◌*◌, ◌^◌, ◌≤◌, ◌-◌, length}
+use Rattle.edge_map.specs.Edges.{changed}
+use Rattle.change_log.specs.Logged.{IsLogged}
+use Rattle.trie_change.specs.After.{map_hold}
+use Rattle.trie_change.specs.Batches.{trip_rest}
+use Rattle.trie_change.specs.RunLaws.{AreDone}
+use Rattle.trie_reopen.proofs.triple_map.replace_rows.Given as goal
+
+abbrev pub invariant-loop-first : goal.invariant-loop-first
+invariant-loop-first g l =
+    (so_far : AreDone (λ p. p.0.0) trip_rest l.change 2 l.fn.context l.old l.triples l.context l.rest l.changes.items)
+    × IsLogged g.M.Mix.mixed l.fn.context l.context l.fn.log.steps l.log.steps (map_hold 2 (changed l.old l.changes.items)) (map_hold 2 l.old) (2 ^ 34 * length so_far.done)
+    × (l.interns ≤ l.fn.interns + 3 * length so_far.done)
+
+abbrev pub decreases-loop-first : goal.decreases-loop-first
+decreases-loop-first g l = length l.rest

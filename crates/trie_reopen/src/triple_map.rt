@@ -1,0 +1,103 @@
+//! A map of edges to pairs changed, with the old edges kept in the log.
+ghost use Rattle.std.specs.Prelude.{◌≡◌, ◌+◌, ◌*◌, ◌≤◌, ◌^◌, ℕ, [], IfOk, OnOk, OnErr, length};
+ghost use Rattle.change_log.specs.Log.{Grows};
+ghost use Rattle.change_log.specs.Logged.{IsLogged};
+ghost use Rattle.edge_map.specs.Edges.{changed};
+ghost use Rattle.edge_map.specs.Entries.{KeysRise};
+ghost use Rattle.trie_depth.specs.Tuples.{trip_tuple};
+ghost use Rattle.trie_node.specs.Sets.{edges_in};
+ghost use Rattle.trie_context.specs.Holds.{holds_of};
+ghost use Rattle.trie_change.specs.After.{map_hold, run_room, triples_of};
+ghost use Rattle.trie_change.specs.Premises.{MayChangeMap};
+ghost use Rattle.trie_change.specs.Rooms.{LeavesRoom, AreChanged, AreSmallAfter};
+
+use crate::reopened::change_held_pairs;
+use change_log::Log;
+use edge_map::{Edge, EdgeMap};
+use std::alloc::Global;
+use std::sync::ledger::Ledger;
+use trie_change::{Change, triple_run};
+use trie_context::Context;
+use trie_depth::{Id, Memory, Mix, Steps, Trip};
+
+/// What each run of triples makes of the edge under its first key. The old map's edges were in hand, and those of the
+/// changed map are.
+fn replace_rows<M: Mix, W: Ledger, V: Ledger>(
+    alloc: Global,
+    context: &mut Context<M>,
+    change: Change,
+    old: &EdgeMap,
+    triples: &[Trip],
+    changes: &mut Vec<(Id, Option<Edge>)>,
+    log: &mut Log,
+    interns: &mut Steps<W>,
+    retains: &mut Steps<V>,
+) -> Result<(), Memory>
+    requires none { changes.old.items ≡ [] }
+    requires entries { MayChangeMap change context.old 2 trip_tuple old.now triples.now }
+    requires size { AreSmallAfter change context.old 2 old.now (triples_of triples.now) }
+    requires held { (r : ℕ) → edges_in old.now r ≤ holds_of context.old 2 r }
+    requires room { LeavesRoom context.old (run_room triples.now) }
+    ensures rise { OnOk result (KeysRise changes.new.items) }
+    ensures changed { OnOk result (AreChanged change context.old context.new 2 old.now (triples_of triples.now) (changed old.now changes.new.items)) }
+    ensures logged { OnOk result (IsLogged M.mixed context.old context.new log.old.steps log.new.steps (map_hold 2 (changed old.now changes.new.items)) (map_hold 2 old.now) (run_room triples.now)) }
+    ensures grew { OnErr result (Grows M.mixed context.old context.new log.old.steps log.new.steps) }
+    ensures ticks { interns.new ≤ interns.old + 3 * length triples.now }
+{
+    context.is_kept();
+    let mut rest = triples;
+    while let Some(first) = rest.first() {
+        let key = first.0;
+        let (run, others) = rest.split_at(triple_run(rest, key));
+        changes.reserve(1)?;
+        let edge = change_held_pairs(
+            alloc,
+            context,
+            change,
+            old.get(key),
+            run,
+            log,
+            interns,
+            retains,
+        )?;
+        changes.push_reserved((key, edge));
+        rest = others;
+    }
+    Ok(())
+}
+
+/// The map with the edge under the first key of each triple changed by what is behind it. The old map's edges were in hand,
+/// and the new one's are.
+pub fn replace_triple_map<M: Mix, W: Ledger, V: Ledger>(
+    alloc: Global,
+    context: &mut Context<M>,
+    change: Change,
+    old: &EdgeMap,
+    triples: &[Trip],
+    log: &mut Log,
+    interns: &mut Steps<W>,
+    retains: &mut Steps<V>,
+) -> Result<EdgeMap, Memory>
+    requires entries { MayChangeMap change context.old 2 trip_tuple old.now triples.now }
+    requires size { AreSmallAfter change context.old 2 old.now (triples_of triples.now) }
+    requires held { (r : ℕ) → edges_in old.now r ≤ holds_of context.old 2 r }
+    requires room { LeavesRoom context.old (run_room triples.now) }
+    ensures changed { IfOk result (AreChanged change context.old context.new 2 old.now (triples_of triples.now)) }
+    ensures logged { IfOk result (λ m. IsLogged M.mixed context.old context.new log.old.steps log.new.steps (map_hold 2 m) (map_hold 2 old.now) (run_room triples.now)) }
+    ensures grew { OnErr result (Grows M.mixed context.old context.new log.old.steps log.new.steps) }
+    ensures ticks { interns.new ≤ interns.old + 3 * length triples.now }
+{
+    let mut changes = Vec::new(alloc);
+    replace_rows(
+        alloc,
+        context,
+        change,
+        old,
+        triples,
+        &mut changes,
+        log,
+        interns,
+        retains,
+    )?;
+    old.with(&changes)
+}

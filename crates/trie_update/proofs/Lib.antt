@@ -1,2 +1,3 @@
 mod RootHolds
 mod Settled
+mod Sizes

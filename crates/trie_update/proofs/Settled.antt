@@ -11,7 +11,7 @@ use Rattle.trie_context.specs.Opened.{HoldsAreMoved}
 use Rattle.trie_context.specs.Roots.{root_set, root_hold, IsHeld}
 use Rattle.change_log.specs.declared.step.Step.{Step}
 use Rattle.change_log.specs.Laws.{others_by_came}
-use Rattle.change_log.specs.Log.{Leads, keeps, reserved_in, HasPlaces, frees}
+use Rattle.change_log.specs.Log.{Leads, Grows, keeps, reserved_in, HasPlaces, frees}
 use Rattle.change_log.specs.Logged.{OthersStay, IsLogged}
 use Rattle.change_log.specs.ReservedLaws.{led_reserved}
 use Rattle.trie_change.specs.Rooms.{HeldStay}
@@ -21,10 +21,14 @@ append_none : (steps : List Step) → steps ++ [] ≡ steps
 append_none [] = refl
 append_none (step ∷ steps) = ap (λ l. step ∷ l) (append_none steps)
 
+-- a log that grew from nothing leads from the tables before
+pub grown_led : (mixed : ℕ → ℕ → ℕ → ℕ → ℕ) (t u : Tables) (steps : List Step) → Grows mixed t u [] steps → Leads mixed t steps u
+grown_led mixed t u steps grew = subst (λ l. Leads mixed t l u) (sym (grew.1 ∙ append_none grew.0)) grew.2
+
 module _ (mixed : ℕ → ℕ → ℕ → ℕ → ℕ) (t u : Tables) (steps : List Step) (old new : Root) (most : ℕ) (held : IsHeld t old) (logged : IsLogged mixed t u [] steps (root_hold new) (root_hold old) most) where
   -- the log leads from the tables before
   pub led : Leads mixed t steps u
-  led = subst (λ l. Leads mixed t l u) (sym (logged.grew.1 ∙ append_none logged.grew.0)) logged.grew.2
+  led = grown_led mixed t u steps logged.grew
 
   -- the new root is held beside what the log keeps
   pub kept_held : (d r : ℕ) → keeps steps d r ≤ holds_of u d r

@@ -241,9 +241,9 @@ fn tries_opened(depth: usize, told: usize, tries: u64) -> u64 {
 }
 
 /// What counts as tried once a row is found, or another label is opened. As the next rows are likely to stand as far apart,
-/// it isn't begun anew.
+/// it isn't begun anew; where each key gives a row, nothing counts soon.
 fn fewer(tries: u64) -> u64 {
-    (tries - tries / 4).saturating_sub(1)
+    (tries - tries / 4).saturating_sub(2)
 }
 
 /// One more, where the label that goes on is the last one that tells rows apart.

@@ -143,6 +143,19 @@ fn reckoned(mask: Mask, count: u64) -> u64 {
     }
 }
 
+/// What is reckoned on top of the keys of a label that stands at one place alone. Fixing it rules nothing out, so all other
+/// labels come before it.
+const ALONE: u64 = 1 << 40;
+
+/// The least number of keys to reckon with, of a label that stands at so many places.
+fn reckoned_at(places: u32, least: u64) -> u64 {
+    if places == 1 {
+        least.saturating_add(ALONE)
+    } else {
+        least
+    }
+}
+
 /// The least number of keys to reckon with that a pattern has at a label.
 pub fn n_keys<O: Operand, W: Ledger>(
     tracks: &[Track<O>],
@@ -154,18 +167,20 @@ pub fn n_keys<O: Operand, W: Ledger>(
     requires parts { AreParts O.depth_of O.tuples depth tracks.now }
 {
     let mut least = u64::MAX;
+    let mut places = 0u32;
     for i in 0..tracks.len() {
         let track = &tracks[i];
         let part = track.parts[depth];
         let mask = part.labels.mask(label);
         if mask.0 > 0 {
             least = least.min(reckoned(mask, part.op.key_count(mask, reads)));
+            places = places.saturating_add(mask.0.count_ones());
         }
         if least <= 1 {
             return least;
         }
     }
-    least
+    reckoned_at(places, least)
 }
 
 /// The patterns of a search through so many labels, and whether these are all: none where one is empty.

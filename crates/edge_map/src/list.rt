@@ -1,19 +1,24 @@
 //! The chunks of a map. Most maps have one, which lies in the map itself; a longer list is shared by maps with the same chunks.
 ghost use Rattle.std.specs.Prelude.{◌≡◌, ◌≤◌, ◌^◌, [], IfOk, length};
-ghost use Rattle.edge_map.specs.Chunks.{flat};
+ghost use Rattle.edge_map.specs.Chunks.{flat, seek_in, AreSized};
+ghost use Rattle.edge_map.specs.Entries.{KeysRise};
 
 use crate::chunk::Chunk;
-use crate::chunks::total;
+use crate::chunks::{seek, total};
+use crate::edge::Edge;
 use std::alloc::Global;
+use std::cell::Cell;
 use std::marker::Model;
 use std::rc::Rc;
-use trie_depth::Memory;
+use trie_depth::{Id, Memory};
 
 /// Chunks, and how many entries they have.
 #[derive(Drop)]
 pub struct Long {
     size: usize,
     chunks: Vec<Chunk>,
+    /// How many chunks the last search passed.
+    near: Cell<usize>,
 }
 
 #[derive(Drop)]
@@ -64,7 +69,8 @@ impl ChunkList {
         let mut chunks = chunks;
         if chunks.len() > 1 {
             let size = total(&chunks);
-            let long = Rc::new(alloc, Long { size, chunks })?;
+            let near = Cell::new(0);
+            let long = Rc::new(alloc, Long { size, chunks, near })?;
             return Ok(ChunkList {
                 listed: Listed::Many(long),
             });
@@ -97,6 +103,19 @@ impl ChunkList {
             Listed::Nothing => 0,
             Listed::One(chunk) => chunk.len(),
             Listed::Many(long) => long.size,
+        }
+    }
+
+    /// The first entry whose key isn't below `from`.
+    pub fn seek(&self, from: Id) -> Option<(Id, Edge)>
+        requires rising { KeysRise (flat self.now) }
+        requires sized { AreSized self.now }
+        ensures { result ≡ seek_in from.0 (flat self.now) }
+    {
+        match &self.listed {
+            Listed::Nothing => None,
+            Listed::One(chunk) => chunk.seek(from),
+            Listed::Many(long) => seek(&long.chunks, from, &long.near),
         }
     }
 

@@ -1,10 +1,11 @@
-//! Where a key belongs among keys that rise. A few are tried one by one, as most lists are short; else the place is
-//! guessed from the first key and the last, and found from there by doubled steps and halving.
+//! Where a key belongs among keys that rise. A few are tried one by one, as most lists are short and most keys stand
+//! where the last one was found; else the place is guessed from the first key and the last, and found from there by
+//! doubled steps and halving.
 ghost use Rattle.std.specs.Prelude.{◌≡◌, ℕ, ◌<◌, ◌≤◌, length};
 ghost use Rattle.std.proofs.Common.{get_or};
 ghost use Rattle.trie_depth.specs.declared.id.Id.{Id};
 ghost use Rattle.edge_map.specs.Entries.{KeysRise, place_of};
-ghost use Rattle.edge_map.specs.Packing.{keyed, IsBetween};
+ghost use Rattle.edge_map.specs.Packing.{keyed, AreBelow, IsBetween};
 
 use trie_depth::Id;
 
@@ -89,19 +90,34 @@ fn guess(keys: &[Id], from: Id) -> usize
     (share as usize).min(last)
 }
 
-/// How many keys are below `from`.
-pub fn place_in(keys: &[Id], from: Id) -> usize
+/// A place before which all keys are below `from`: the near one, if its key isn't above.
+fn start(keys: &[Id], from: Id, near: usize) -> usize
+    requires { KeysRise (keyed keys.now) }
+    ensures below { AreBelow keys.now from.0 result }
+    ensures within { result ≤ length keys.now }
+{
+    if near < keys.len() && keys[near].0 <= from.0 {
+        near
+    } else {
+        0
+    }
+}
+
+/// How many keys are below `from`. The search begins at a place that is thought to be near.
+pub fn place_in(keys: &[Id], from: Id, near: usize) -> usize
     requires { KeysRise (keyed keys.now) }
     ensures place { result ≡ place_of from.0 (keyed keys.now) }
     ensures within { result ≤ length keys.now }
 {
-    for at in 0..keys.len().min(SHORT) {
+    let first = start(keys, from, near);
+    let end = first.saturating_add(SHORT).min(keys.len());
+    for at in first..end {
         if keys[at].0 >= from.0 {
             return at;
         }
     }
-    if keys.len() <= SHORT {
-        return keys.len();
+    if end == keys.len() {
+        return end;
     }
     let at = guess(keys, from);
     if keys[at].0 < from.0 {

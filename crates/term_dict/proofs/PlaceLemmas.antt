@@ -1,13 +1,14 @@
 -- How each change of the places keeps the count of terms and the list of places without one.
 use Rattle.std.proofs.Common.{◌≡◌, ◌≢◌, ◌⊎◌, ℕ, zero, suc, ◌+◌, ◌-◌, ◌<◌, ◌≤◌, List, [], ◌∷◌, ◌++◌, map, length, get_or, set, Option, Some, None, is_some, IsSome, count_by, cond, slice_get, refl, sym, ap, subst, ◌∙◌, inl, inr, arith, length-set}
 use Rattle.std.proofs.lemmas.List.{map-set, map_push, length-map, length_push, get_or-map, get_or-set_same, get_or-set_other, get_or_past}
+use Rattle.std.proofs.lemmas.List.Elements.{All-set, All-push}
 use Rattle.std.proofs.lemmas.List.Sums.{sum_by-set, sum_by_push}
 use Rattle.std.proofs.lemmas.Option.{slice_get_within, slice_get-get_or, slice_get_read, get_or_from_slice_get}
 use Rattle.rdf_model.specs.Terms.{Term}
 use Rattle.hash_index.specs.Slots.{slot_at, Writes}
 use Rattle.term_dict.specs.declared.place.Place.{Place}
 use Rattle.term_dict.specs.declared.place.Place.TheVariants.{Vacant}
-use Rattle.term_dict.specs.Places.{term_in, IsVacantList, IsLinked}
+use Rattle.term_dict.specs.Places.{term_in, IsParted, IsVacantList, IsLinked}
 
 -- a place starts one list at most
 count_unique : (ps : List Place) (m n number : ℕ) → IsVacantList ps m number → IsVacantList ps n number → m ≡ n
@@ -108,8 +109,8 @@ one-some : (o : Option Term) → IsSome o → ◌≡◌ {A = ℕ} (cond (is_some
 one-some None there = cc
 one-some (Some t) there = refl
 
-pub IsLinked-push : (ps : List Place) (held next : ℕ) (e : Place) → IsLinked ps held next → next ≡ length ps → IsSome (term_in e) → IsLinked (ps ++ e ∷ []) (held + 1) (next + 1)
-IsLinked-push ps held next e sound at_end there =
+pub IsLinked-push : (ps : List Place) (held next : ℕ) (e : Place) → IsLinked ps held next → next ≡ length ps → IsSome (term_in e) → IsParted e → IsLinked (ps ++ e ∷ []) (held + 1) (next + 1)
+IsLinked-push ps held next e sound at_end there cut =
     let full = full_at_end ps held next sound at_end in
     let longer = length_push ps e in
     let one = one-some (term_in e) there in
@@ -118,11 +119,12 @@ IsLinked-push ps held next e sound at_end there =
       vacant = 0;
       total = omega arith;
       linked = omega arith;
+      parted = All-push IsParted ps e sound.parted cut;
     }
 
 -- the first place without a term leaves the list: the rest of the list is shorter, so it does not come back to that place
-pub IsLinked-fill : (ps : List Place) (held next after : ℕ) (e : Place) → IsLinked ps held next → slice_get ps next ≡ Some (Vacant after) → IsSome (term_in e) → IsLinked (set ps next e) (held + 1) after
-IsLinked-fill ps held next after e sound found there = by_count sound.vacant sound.total sound.linked
+pub IsLinked-fill : (ps : List Place) (held next after : ℕ) (e : Place) → IsLinked ps held next → slice_get ps next ≡ Some (Vacant after) → IsSome (term_in e) → IsParted e → IsLinked (set ps next e) (held + 1) after
+IsLinked-fill ps held next after e sound found there cut = by_count sound.vacant sound.total sound.linked
   where
     by_count : (n : ℕ) → held + n ≡ length ps → IsVacantList ps n next → IsLinked (set ps next e) (held + 1) after
     by_count zero total linked = absurd (omega (arith, slice_get_within ps next _ found))
@@ -136,6 +138,7 @@ IsLinked-fill ps held next after e sound found there = by_count sound.vacant sou
           vacant = n;
           total = omega (arith, length-set ps next e);
           linked = IsVacantList-set ps next e n after off (subst (IsVacantList ps n) same linked.2);
+          parted = All-set IsParted ps next e cut sound.parted;
         }
 
 pub IsLinked-vacate : (ps : List Place) (held next number : ℕ) (e : Place) → IsLinked ps held next → slice_get ps number ≡ Some e → IsSome (term_in e) → IsLinked (set ps number (Vacant next)) (held - 1) number
@@ -152,6 +155,7 @@ IsLinked-vacate ps held next number e sound found there =
       vacant = suc sound.vacant;
       total = let all = sound.total in omega (arith, length-set ps number (Vacant next));
       linked = (next, written, IsVacantList-set ps number (Vacant next) sound.vacant next (λ m _. term_is_off_list ps number e found there m) sound.linked);
+      parted = All-set IsParted ps number (Vacant next) tt sound.parted;
     }
 
 -- at least one place has a term

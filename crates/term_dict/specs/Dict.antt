@@ -3,10 +3,12 @@ use Rattle.std.specs.Prelude.{◌≡◌, ◌≢◌, ◌⊎◌, ℕ, ◌<◌, ◌
 use Rattle.std.specs.Ordering.{nat_cmp}
 use Rattle.std.specs.FinMap as map
 use Rattle.std.specs.FinMap.{FinMap}
-use Rattle.std.specs.Hash.FoldHasher as folding
 use Rattle.rdf_model.specs.Terms.{Text, Term, Iri, Blank, Literal, Typed, Tagged}
 use Rattle.hash_index.specs.Short.{short_of}
-use Rattle.hash_index.specs.Slots.{slot_at, IsIndexed}
+use Rattle.hash_index.specs.Slots.{slot_at, IsIndexed, Writes}
+use Rattle.term_dict.specs.Places.{IsUsedAgainFirst, IsOneMoreAtMost}
+use Rattle.term_dict.specs.TextHash.{hash_of_texts}
+use Rattle.term_dict.specs.declared.text_hash.TextHash.{TextHash}
 
 abbrev pub Terms : Type 0
 Terms = FinMap nat_cmp Term
@@ -37,11 +39,26 @@ texts_of (Literal form (Typed datatype)) = (form, datatype)
 texts_of (Literal form (Tagged tag)) = (form, tag)
 
 -- the hash under which a term is listed
-unfoldable pub hash_of : Term → ℕ
-hash_of term = short_of (folding.finish (folding.write (folding.write folding.initial (texts_of term).0) (texts_of term).1))
+unfoldable pub hash_of : TextHash → Term → ℕ
+hash_of secrets term = short_of (hash_of_texts secrets (texts_of term).0 (texts_of term).1)
+
+-- no slot that is listed under the hash has the term
+abbrev pub IsNotUnder : List (Option Term) → FinMap nat_cmp ℕ → ℕ → Term → Type 0
+IsNotUnder slots index hash term = (number : ℕ) → map.get index number ≡ Some hash → slot_at slots number ≢ Some term
+
+-- slots without a term are listed nowhere
+abbrev pub ListsHeld : List (Option Term) → FinMap nat_cmp ℕ → Type 0
+ListsHeld slots index = (number : ℕ) → slot_at slots number ≡ None → map.get index number ≡ None
+
+-- the term has come into a slot that had none, and into a new one only where each had a term
+pub record Puts (old new : List (Option Term)) (number : ℕ) (term : Term) : Type 0 where
+  pub vacant : slot_at old number ≡ None
+  pub written : Writes old new number (Some term)
+  pub least : IsUsedAgainFirst old number
+  pub len : IsOneMoreAtMost old new number
 
 -- the index has exactly the terms, each under its hash, no two places have one term, and the places are at most 2 ^ 31
-pub record IsDictionary (slots : List (Option Term)) (index : FinMap nat_cmp ℕ) : Type 0 where
-  pub indexed : IsIndexed hash_of slots index
+pub record IsDictionary (secrets : TextHash) (slots : List (Option Term)) (index : FinMap nat_cmp ℕ) : Type 0 where
+  pub indexed : IsIndexed (hash_of secrets) slots index
   pub different : (p q : ℕ) (term : Term) → slot_at slots p ≡ Some term → slot_at slots q ≡ Some term → p ≡ q
   pub few : length slots ≤ 2 ^ 31

@@ -1,2 +1,3 @@
 pub mod Dict
 pub mod Places
+pub mod TextHash

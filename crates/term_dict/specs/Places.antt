@@ -1,5 +1,6 @@
 -- What the places of a dictionary hold.
-use Rattle.std.specs.Prelude.{◌≡◌, ◌⊎◌, ◌<◌, ℕ, zero, suc, ◌+◌, List, map, length, Option, None, Some, is_some, count_by, slice_get, refl}
+use Rattle.std.specs.Prelude.{◌≡◌, ◌⊎◌, ◌<◌, ℕ, zero, suc, ◌+◌, List, map, length, take, drop, Option, None, Some, is_some, count_by, All, slice_get, string_bytes, refl, ⊤}
+use Rattle.std.specs.Str.{IsCharBoundary}
 use Rattle.std.specs.Coded.{Coded, code_by, coded×, coded_ℕ, coded_list, coded_option}
 use Rattle.rdf_model.specs.Terms.{Term, Iri, Blank, Literal, Typed, Tagged}
 use Rattle.rdf_model.specs.Texts.{xsd_string}
@@ -16,8 +17,23 @@ term_in (place.Vacant next) = None
 term_in (place.Iri text) = Some (Iri text)
 term_in (place.Blank label) = Some (Blank label)
 term_in (place.Plain form) = Some (Literal form (Typed xsd_string))
-term_in (place.Typed texts) = Some (Literal texts.0 (Typed texts.1))
-term_in (place.Tagged texts) = Some (Literal texts.0 (Tagged texts.1))
+term_in (place.Typed parting text) = Some (Literal (take parting (string_bytes text)) (Typed (drop parting (string_bytes text))))
+term_in (place.Tagged parting text) = Some (Literal (take parting (string_bytes text)) (Tagged (drop parting (string_bytes text))))
+
+-- a place that holds two texts in one parts them between characters
+abbrev pub IsParted : Place → Type 0
+IsParted (place.Typed parting text) = IsCharBoundary (string_bytes text) parting
+IsParted (place.Tagged parting text) = IsCharBoundary (string_bytes text) parting
+IsParted (place.Vacant next) = ⊤
+IsParted (place.Iri text) = ⊤
+IsParted (place.Blank label) = ⊤
+IsParted (place.Plain form) = ⊤
+
+-- the text is the first one and then the second, which begins at this byte
+pub record Joins (parting : ℕ) (text first second : List ℕ) : Type 0 where
+  pub first_is : take parting text ≡ first
+  pub second_is : drop parting text ≡ second
+  pub between : IsCharBoundary text parting
 
 -- the terms by their places, the place of the next term, and for how many places there is room
 pub record Slots : Type 0 where
@@ -48,9 +64,10 @@ abbrev pub IsVacantList : List Place → ℕ → ℕ → Type 0
 IsVacantList places zero number = number ≡ length places
 IsVacantList places (suc count) number = (next : ℕ) × (slice_get places number ≡ Some (place.Vacant next)) × IsVacantList places count next
 
--- `held` counts the terms, and the list from `next` has every place without one
+-- `held` counts the terms, the list from `next` has every place without one, and two texts in one part between characters
 pub record IsLinked (places : List Place) (held next : ℕ) : Type 0 where
   pub counted : held ≡ count_by is_some (map term_in places)
   pub vacant : ℕ
   pub total : held + vacant ≡ length places
   pub linked : IsVacantList places vacant next
+  pub parted : All IsParted places

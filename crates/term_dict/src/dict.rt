@@ -2,14 +2,15 @@
 ghost use Rattle.std.specs.Prelude.{◌≡◌, ◌≢◌, ℕ, ◌<◌, ◌^◌, None, Some, IsSome, IsNone, IfSome, IfOk, OnErr, IsTrue, ◌↔◌};
 ghost use Rattle.std.specs.FinMap as map;
 ghost use Rattle.rdf_term.specs.Seen.{lent_term};
-ghost use Rattle.term_dict.specs.Dict.{IsNew, IsOneToOne, HasSmallIds, Interns, texts_of, hash_of as hash_of_term};
+ghost use Rattle.hash_index.specs.Slots.{slot_at};
+ghost use Rattle.term_dict.specs.Dict.{IsNew, IsOneToOne, HasSmallIds, Interns, ListsHeld, IsNotUnder, Puts, texts_of, hash_of as hash_of_term};
 
 use crate::place::Place;
 use crate::places::Places;
+use crate::text_hash::TextHash;
 use hash_index::{HashIndex, short_hash};
 use rdf_term::{KindRef, TermRef, is_same_ref};
 use std::alloc::Global;
-use std::hash::{FoldHasher, Hasher};
 use std::marker::Model;
 use trie_depth::{Id, Memory};
 
@@ -17,6 +18,7 @@ use trie_depth::{Id, Memory};
 #[derive(Drop)]
 pub struct Dict {
     alloc: Global,
+    secrets: TextHash,
     places: Places,
     index: HashIndex,
 }
@@ -34,15 +36,24 @@ impl Model for Dict {
 
     ghost view = { λ d. numbered d.places.slots };
 
-    ghost invariant = { λ d. IsDictionary d.places.slots d.index };
+    ghost invariant = { λ d. IsDictionary d.secrets d.places.slots d.index };
 }
 
 impl Dict {
+    /// No terms; their hashes are the same in each run.
     pub fn new(alloc: Global) -> Dict
+        ensures { result ≡ map.empty }
+    {
+        Dict::seeded(alloc, 0)
+    }
+
+    /// No terms. Who doesn't know the seed can't choose terms of one hash, which would slow look-ups down.
+    pub fn seeded(alloc: Global, seed: u64) -> Dict
         ensures { result ≡ map.empty }
     {
         Dict {
             alloc,
+            secrets: TextHash::of(seed),
             places: Places::new(alloc),
             index: HashIndex::new(alloc),
         }
@@ -71,7 +82,8 @@ impl Dict {
         ensures none { IsNone result → IsNew self.now (lent_term term.entry) }
         ensures one { IsOneToOne self.now }
     {
-        self.find_under(term, hash_of(term))
+        let hash = hash_of(&self.secrets, term);
+        find_under(&self.places, &self.index, term, hash)
     }
 
     /// The term of an Id, whose texts are lent in place.
@@ -94,11 +106,12 @@ impl Dict {
         // Only a new term takes memory.
         ensures new { OnErr result (IsNew self.old (lent_term term.entry)) }
     {
-        let hash = hash_of(term);
-        if let Some(id) = self.find_under(term, hash) {
+        let hash = hash_of(&self.secrets, term);
+        if let Some(id) = find_under(&self.places, &self.index, term, hash) {
             return Ok(id);
         }
-        self.add(term, hash)
+        let number = add(self.alloc, &mut self.places, &mut self.index, term, hash)?;
+        Ok(Id(number as u32))
     }
 
     /// Takes the Id and its term out.
@@ -106,61 +119,61 @@ impl Dict {
         requires { IsSome (map.get self.old id.0) }
         ensures { self.new ≡ map.remove self.old id.0 }
     {
-        let hash = hash_of(self.term(id));
+        let hash = hash_of(&self.secrets, self.term(id));
         self.places.take_out(id.0 as usize);
         self.index.remove(hash, id.0 as usize);
     }
+}
 
-    fn holds(&self, number: usize, term: TermRef<'_>) -> bool
-        ensures { IsTrue result ↔ (map.get self.now number ≡ Some (lent_term term.entry)) }
-    {
-        match self.places.lent(number) {
-            Some(held) => is_same_ref(held, term),
-            None => false,
-        }
-    }
-
-    fn find_under(&self, term: TermRef<'_>, hash: u32) -> Option<Id>
-        requires { hash ≡ hash_of_term (lent_term term) }
-        ensures found { IfSome result (λ id. map.get self.now id.0 ≡ Some (lent_term term.entry)) }
-        ensures small { IfSome result (λ id. id.0 < 2 ^ 31) }
-        ensures none { IsNone result → IsNew self.now (lent_term term.entry) }
-        ensures one { IsOneToOne self.now }
-    {
-        for entry in self.index.near(hash) {
-            if entry.hash == hash && self.holds(entry.number as usize, term) {
-                return Some(Id(entry.number));
-            }
-        }
-        None
-    }
-
-    fn add(&mut self, term: TermRef<'_>, hash: u32) -> Result<Id, Memory>
-        requires hash { hash ≡ hash_of_term (lent_term term) }
-        requires room { map.len self.old < 2 ^ 31 }
-        requires absent { IsNew self.old (lent_term term) }
-        ensures small { IfOk result (λ id. id.0 < 2 ^ 31) }
-        ensures fresh { IfOk result (λ id. map.get self.old id.0 ≡ None) }
-        ensures added { IfOk result (λ id. self.new ≡ map.insert self.old id.0 (lent_term term.entry)) }
-        ensures kept { OnErr result (self.new ≡ self.old) }
-    {
-        let place = Place::of(self.alloc, term)?;
-        self.places.reserve()?;
-        let number = self.places.next();
-        self.index.add(hash, number)?;
-        self.places.put(place);
-        Ok(Id(number as u32))
+fn holds(places: &Places, number: usize, term: TermRef<'_>) -> bool
+    ensures { IsTrue result ↔ (slot_at places.now.slots number ≡ Some (lent_term term.entry)) }
+{
+    match places.lent(number) {
+        Some(held) => is_same_ref(held, term),
+        None => false,
     }
 }
 
-fn hash_of(term: TermRef<'_>) -> u32
-    ensures { result ≡ hash_of_term (lent_term term.entry) }
+// The place with the term, among those that are listed under the hash.
+fn find_under(places: &Places, index: &HashIndex, term: TermRef<'_>, hash: u32) -> Option<Id>
+    ensures found { IfSome result (λ id. slot_at places.now.slots id.0 ≡ Some (lent_term term.entry)) }
+    ensures none { IsNone result → IsNotUnder places.now.slots index.now hash (lent_term term.entry) }
+{
+    for entry in index.near(hash) {
+        if entry.hash == hash && holds(places, entry.number as usize, term) {
+            return Some(Id(entry.number));
+        }
+    }
+    None
+}
+
+// Puts a term into the next place, and lists it. On `Memory` it is as before.
+fn add(
+    alloc: Global,
+    places: &mut Places,
+    index: &mut HashIndex,
+    term: TermRef<'_>,
+    hash: u32,
+) -> Result<usize, Memory>
+    requires { ListsHeld places.old.slots index.old }
+    ensures put { IfOk result (λ number. Puts places.old.slots places.new.slots number (lent_term term.entry)) }
+    ensures listed { IfOk result (λ number. index.new ≡ map.insert index.old number hash) }
+    ensures places_kept { OnErr result (places.new.slots ≡ places.old.slots) }
+    ensures index_kept { OnErr result (index.new ≡ index.old) }
+{
+    let place = Place::of(alloc, term)?;
+    places.reserve()?;
+    let number = places.next();
+    index.add(hash, number)?;
+    places.put(place);
+    Ok(number)
+}
+
+fn hash_of(secrets: &TextHash, term: TermRef<'_>) -> u32
+    ensures { result ≡ hash_of_term secrets.now (lent_term term.entry) }
 {
     let (first, second) = hashed_texts(term);
-    let mut hasher = FoldHasher::default();
-    hasher.write(first.as_bytes());
-    hasher.write(second.as_bytes());
-    short_hash(hasher.finish())
+    short_hash(secrets.hash(first, second))
 }
 
 // The texts of which a term's hash is made.

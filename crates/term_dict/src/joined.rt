@@ -1,47 +1,30 @@
-//! Two texts in one, so that a literal takes one allocation.
-ghost use Rattle.std.specs.Prelude.{◌≡◌, ◌++◌, IfOk};
+//! Two texts in one, so that a literal takes one allocation, and the place where the second one begins.
+ghost use Rattle.std.specs.Prelude.{◌≡◌, IfOk, take, drop};
+ghost use Rattle.std.specs.String.{string_bytes};
+ghost use Rattle.std.specs.Str.{IsCharBoundary};
+ghost use Rattle.term_dict.specs.Places.{Joins};
 
 use std::alloc::Global;
-use std::marker::Model;
 use trie_depth::Memory;
 
-#[derive(Drop)]
-pub struct Joined {
-    text: String,
-    parting: usize,
+/// Both texts in one allocation. The first has fewer than 2^32 bytes, or there is no memory for them.
+pub(crate) fn joined(alloc: Global, first: &str, second: &str) -> Result<(u32, String), Memory>
+    ensures { IfOk result (λ j. Joins j.0 (string_bytes j.1) first.now second.now) }
+{
+    if first.len() >= 1 << 32 {
+        return Err(Memory);
+    }
+    let mut text = String::with_capacity(alloc, first.len() + second.len())?;
+    text.push_str(first)?;
+    text.push_str(second)?;
+    Ok((first.len() as u32, text))
 }
 
-impl Model for Joined {
-    ghost use Rattle.std.specs.Prelude.{List, ℕ, take, drop, string_bytes};
-    ghost use Rattle.std.specs.Str.{IsCharBoundary};
-
-    ghost Value = { List ℕ × List ℕ };
-
-    ghost view = { λ j. (take j.parting (string_bytes j.text), drop j.parting (string_bytes j.text)) };
-
-    ghost invariant = { λ j. IsCharBoundary (string_bytes j.text) j.parting };
-}
-
-impl Joined {
-    pub(crate) fn of(alloc: Global, first: &str, second: &str) -> Result<Joined, Memory>
-        ensures { IfOk result (λ j. j ≡ (first.now, second.now)) }
-    {
-        let mut text = String::with_capacity(alloc, first.len() + second.len())?;
-        text.push_str(first)?;
-        text.push_str(second)?;
-        let parting = first.len();
-        Ok(Joined { text, parting })
-    }
-
-    pub(crate) fn first(&self) -> &str
-        ensures { result.now ≡ self.now.0 }
-    {
-        &self.text[..self.parting]
-    }
-
-    pub(crate) fn second(&self) -> &str
-        ensures { result.now ≡ self.now.1 }
-    {
-        &self.text[self.parting..]
-    }
+/// The texts again.
+pub(crate) fn parted(parting: u32, text: &str) -> (&str, &str)
+    requires { IsCharBoundary text.now parting }
+    ensures first { result.0.now ≡ take parting text.now }
+    ensures second { result.1.now ≡ drop parting text.now }
+{
+    (&text[..parting as usize], &text[parting as usize..])
 }

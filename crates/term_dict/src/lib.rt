@@ -5,5 +5,8 @@ mod dict;
 mod joined;
 mod place;
 mod places;
+#[cfg(test)]
+mod tests;
+mod text_hash;
 
 pub use dict::Dict;

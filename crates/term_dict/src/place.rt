@@ -1,11 +1,12 @@
 //! A place of the dictionary: a term in one allocation, or none.
 ghost use Rattle.std.specs.Prelude.{◌≡◌, IfOk, None, Some, MatchOption};
 ghost use Rattle.rdf_term.specs.Seen.{lent_term};
-ghost use Rattle.term_dict.specs.Places.{term_in};
+ghost use Rattle.term_dict.specs.Places.{term_in, IsParted};
 
-use crate::joined::Joined;
+use crate::joined::{joined, parted};
 use rdf_term::{KindRef, TermRef, XSD_STRING};
 use std::alloc::Global;
+use std::mem::size_of;
 use tn_io::Text;
 use trie_depth::Memory;
 
@@ -17,14 +18,19 @@ pub enum Place {
     Blank(Text),
     /// A literal of xsd:string.
     Plain(Text),
-    Typed(Joined),
-    Tagged(Joined),
+    /// A form and a datatype in one text, and where the datatype begins.
+    Typed(u32, String),
+    /// A form and a language tag in one text, and where the tag begins.
+    Tagged(u32, String),
 }
+
+const _: () = prove!(size_of::<Place>() == 32);
 
 impl Place {
     /// A place that holds the term.
     pub(crate) fn of(alloc: Global, term: TermRef<'_>) -> Result<Place, Memory>
-        ensures { IfOk result (λ p. term_in p ≡ Some (lent_term term.entry)) }
+        ensures term { IfOk result (λ p. term_in p ≡ Some (lent_term term.entry)) }
+        ensures parted { IfOk result IsParted }
     {
         match term {
             TermRef::Iri(text) => Ok(Place::Iri(Text::of(alloc, text)?)),
@@ -33,16 +39,19 @@ impl Place {
                 if datatype == XSD_STRING {
                     return Ok(Place::Plain(Text::of(alloc, form)?));
                 }
-                Ok(Place::Typed(Joined::of(alloc, form, datatype)?))
+                let (parting, text) = joined(alloc, form, datatype)?;
+                Ok(Place::Typed(parting, text))
             }
             TermRef::Literal(form, KindRef::Tagged(tag)) => {
-                Ok(Place::Tagged(Joined::of(alloc, form, tag)?))
+                let (parting, text) = joined(alloc, form, tag)?;
+                Ok(Place::Tagged(parting, text))
             }
         }
     }
 
     /// The term in this place, lent.
     pub(crate) fn lent(&self) -> Option<TermRef<'_>>
+        requires { IsParted self.now }
         ensures { MatchOption result (term_in self.now ≡ None) (λ t. term_in self.now ≡ Some (lent_term t)) }
     {
         match self {
@@ -50,11 +59,13 @@ impl Place {
             Place::Iri(text) => Some(TermRef::Iri(text.as_str())),
             Place::Blank(label) => Some(TermRef::Blank(label.as_str())),
             Place::Plain(form) => Some(TermRef::Literal(form.as_str(), KindRef::Typed(XSD_STRING))),
-            Place::Typed(texts) => {
-                Some(TermRef::Literal(texts.first(), KindRef::Typed(texts.second())))
+            Place::Typed(parting, text) => {
+                let (form, datatype) = parted(*parting, text);
+                Some(TermRef::Literal(form, KindRef::Typed(datatype)))
             }
-            Place::Tagged(texts) => {
-                Some(TermRef::Literal(texts.first(), KindRef::Tagged(texts.second())))
+            Place::Tagged(parting, text) => {
+                let (form, tag) = parted(*parting, text);
+                Some(TermRef::Literal(form, KindRef::Tagged(tag)))
             }
         }
     }

@@ -1,7 +1,7 @@
 //! Places for terms. A place that was given up is used again before a new one is made.
 ghost use Rattle.std.specs.Prelude.{◌≡◌, ◌<◌, [], None, IsSome, OnOk, length, is_some, count_by};
 ghost use Rattle.hash_index.specs.Slots.{slot_at, Writes};
-ghost use Rattle.term_dict.specs.Places.{term_in, IsLentFrom, IsUsedAgainFirst, IsOneMoreAtMost};
+ghost use Rattle.term_dict.specs.Places.{term_in, IsParted, IsLentFrom, IsUsedAgainFirst, IsOneMoreAtMost};
 
 use crate::place::Place;
 use rdf_term::TermRef;
@@ -81,6 +81,7 @@ impl Places {
     pub(crate) fn put(&mut self, place: Place)
         requires room { self.old.next < self.old.capacity }
         requires term { IsSome (term_in place) }
+        requires parted { IsParted place }
         ensures written { Writes self.old.slots self.new.slots self.old.next (term_in place) }
         ensures len { IsOneMoreAtMost self.old.slots self.new.slots self.old.next }
     {

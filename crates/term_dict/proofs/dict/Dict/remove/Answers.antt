@@ -10,11 +10,11 @@ take_out-requires c = subst IsSome (at_slot c.self.inside.places.slots c.args.se
 
 pub remove-requires : goal.remove-requires
 remove-requires c =
-    listed c.self.inside.places.slots c.self.inside.index c.args.self.now c.args.id.0 _ c.self.view_is c.self.invariant c.term.ensures ∙ ap Some (sym c.hash_of-hash.ensures)
+    listed c.self.inside.secrets c.self.inside.places.slots c.self.inside.index c.args.self.now c.args.id.0 _ c.self.view_is c.self.invariant c.term.ensures ∙ ap Some (sym c.hash_of-hash.ensures)
 
 pub invariant_of-self : goal.invariant_of-self
 invariant_of-self c =
-    IsDictionary-remove c.self.inside.places.slots c.take_out.new.self.slots c.self.inside.index c.remove.new.self c.args.id.0 c.self.invariant c.take_out.ensures.written c.remove.ensures c.take_out.ensures.len
+    IsDictionary-remove c.self.inside.secrets c.self.inside.places.slots c.take_out.new.self.slots c.self.inside.index c.remove.new.self c.args.id.0 c.self.invariant c.take_out.ensures.written c.remove.ensures c.take_out.ensures.len
 
 pub returns : goal.returns
 returns c =

@@ -1,0 +1,30 @@
+use Rattle.std.proofs.Common.{◌≡◌, ℕ, suc, ◌+◌, ◌-◌, ◌*◌, ◌/◌, length, refl, arith}
+use borrow.Author.Tests.{le-leb, lt-leb}
+use Rattle.term_dict.specs.TextHash.{after_blocks, after}
+use Rattle.term_dict.proofs.text_hash.TextHash.after.Goals as goal
+
+pub returns-then-len-le8 : goal.returns-then-len-le8
+unfolding after
+returns-then-len-le8 c = rw (c.folded.ensures, c.short_word.ensures, le-leb (length c.args.bytes.now) 8 c.if-len-le8.true)
+
+pub loop-at-init : goal.loop-at-init
+unfolding after_blocks
+loop-at-init c = (refl, omega arith, refl)
+
+pub loop-at-preserved : goal.loop-at-preserved
+unfolding after_blocks
+loop-at-preserved c =
+    let at : ℕ = c.loop-at.at in
+    let whole : at ≡ 16 * (at / 16) = omega (arith, c.loop-at.invariant.0) in
+    let more : (at + 16) / 16 ≡ suc (at / 16) = omega arith in (
+      omega arith,
+      omega arith,
+      rw (more, c.folded-state.ensures, c.word.ensures, c.word-in-loop-at.ensures, ← c.loop-at.invariant.2, ← whole),
+    )
+
+pub returns : goal.returns
+unfolding after
+returns c =
+    let n : ℕ = length c.args.bytes.now in
+    let count : (n - 1) / 16 ≡ c.loop-at.at / 16 = omega (arith, c.loop-at.invariant.0, c.loop-at.invariant.1, c.loop-at-test.false) in
+    rw (lt-leb n 8 c.if-len-le8.false, count, ← c.loop-at.invariant.2, c.folded-2.ensures, c.word-2.ensures, c.word-3.ensures, c.saturating_sub.ensures)

@@ -2,7 +2,7 @@
 ghost use Rattle.std.specs.Prelude.{◌≡◌};
 ghost use Rattle.std.specs.List.{flat_map};
 ghost use Rattle.run_model.specs.Answers.{line_text};
-ghost use Rattle.answer_text.specs.Puts.{Puts};
+ghost use Rattle.tn_io.specs.OutText.{Puts};
 
 use tn_io::{Failed, Lines, Out, Sink};
 

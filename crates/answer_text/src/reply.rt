@@ -1,7 +1,7 @@
 //! The line that ends an answer, and the line of a refused command.
 ghost use Rattle.std.specs.Prelude.{◌≡◌, ◌++◌, codes, decimal};
 ghost use Rattle.run_model.specs.Answers.{refusal_text, reply_text, figures_text};
-ghost use Rattle.answer_text.specs.Puts.{Puts};
+ghost use Rattle.tn_io.specs.OutText.{Puts};
 ghost use Rattle.answer_text.specs.Seen.{refusal_of, reply_of, figures_of};
 
 use crate::pieces::put_pieces;

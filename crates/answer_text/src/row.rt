@@ -5,7 +5,7 @@ ghost use Rattle.rdf_term.specs.Seen.{lent_term};
 ghost use Rattle.query_plan.specs.Seen.{query_seen, column_seen};
 ghost use Rattle.solution_model.specs.Texts.{header_text, field_text};
 ghost use Rattle.run_model.specs.Answers.{line_text};
-ghost use Rattle.answer_text.specs.Puts.{Puts};
+ghost use Rattle.tn_io.specs.OutText.{Puts};
 ghost use Rattle.answer_text.specs.Fields.{parting};
 
 use crate::pieces::put_pieces;

@@ -1,6 +1,6 @@
 //! The answers of commands, put as the texts of docs/SCRIPT.md, "Answers" and "Refusals".
 ghost use Rattle.std.specs.Prelude.{◌≡◌};
-ghost use Rattle.answer_text.specs.Puts.{Puts};
+ghost use Rattle.tn_io.specs.OutText.{Puts};
 ghost use Rattle.run_model.specs.Answers.{answer_text as text_of_answer, Dumped, Counted, Shaped};
 ghost use Rattle.line_batch.specs.Seen.{figures_seen};
 

@@ -11,8 +11,8 @@ use Rattle.bag_model.specs.AnswerLaws.{some_answer}
 use Rattle.bag_model.specs.Listings.{Listing}
 use Rattle.solution_model.specs.Texts.{header_text}
 use Rattle.run_model.specs.Answers.{line_text, row_line, reply_text, Rows, rows_told}
-use Rattle.answer_text.specs.Puts.{Puts}
-use Rattle.answer_text.proofs.PutLemmas.{puts_both, puts_first, puts_same}
+use Rattle.tn_io.specs.OutText.{Puts}
+use Rattle.tn_io.proofs.PutLemmas.{puts_both, puts_first, puts_same}
 use Rattle.listing_text.specs.Rows.{PutsRows, PutsAnswer}
 
 -- whether the rows were put, without their number

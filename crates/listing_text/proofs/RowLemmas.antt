@@ -19,7 +19,7 @@ use Rattle.bag_model.specs.Listings.{Listing, MayGive, GoesOn}
 use Rattle.solution_model.specs.Rows.{Row}
 use Rattle.solution_model.specs.Texts.{tabbed, field_text, row_text}
 use Rattle.run_model.specs.Answers.{row_line, rows_told}
-use Rattle.answer_text.specs.Puts.{Puts}
+use Rattle.tn_io.specs.OutText.{Puts}
 use Rattle.listing_text.specs.Rows.{HasWidth, PutsRows}
 
 -- so many rows a listing has to give

@@ -13,7 +13,7 @@ use Rattle.tn_io.specs.declared.outside.Failed.{Failed}
 use Rattle.tn_io.specs.Causes.{HasCause}
 use Rattle.tn_io.specs.Known.{Begins}
 use Rattle.tn_io.specs.OutText.{all_put}
-use Rattle.answer_text.specs.Puts.{Puts}
+use Rattle.tn_io.specs.OutText.{Puts}
 
 -- each row that a listing may give has a value or none for each column
 abbrev pub HasWidth : Listing Term → Type 0

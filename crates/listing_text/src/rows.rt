@@ -4,7 +4,7 @@ ghost use Rattle.query_plan.specs.Seen.{query_seen};
 ghost use Rattle.solution_model.specs.Rows.{Row};
 ghost use Rattle.solution_model.specs.Texts.{row_text};
 ghost use Rattle.run_model.specs.Answers.{row_line};
-ghost use Rattle.answer_text.specs.Puts.{Puts};
+ghost use Rattle.tn_io.specs.OutText.{Puts};
 ghost use Rattle.listing_text.specs.Rows.{HasWidth, PutsRows, PutsAnswer};
 
 use answer_text::{Reply, end_row, field, header, ok};

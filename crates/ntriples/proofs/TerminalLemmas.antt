@@ -3,7 +3,6 @@ use Rattle.std.proofs.Common.{◌≡◌, ◌∙◌, Bool, false, ◌==◌, ℕ, 
 use Rattle.std.specs.Prelude.{Option, Some, None, sum_by, IsUtf8}
 use Rattle.std.proofs.lemmas.List.{take_all}
 use Rattle.std.proofs.Math.Seq.{take-append_seam}
-use Rattle.std.proofs.lemmas.List.Sums.{sum_by-append}
 use Rattle.std.proofs.lemmas.Bool.Decides.{nat_tests}
 use Rattle.rdf_model.specs.Terms.{Text}
 use Rattle.ntriples_model.specs.Line.{made, scoped}

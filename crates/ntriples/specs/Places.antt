@@ -1,5 +1,6 @@
 -- Terms by the places of their texts in a Scratch.
-use Rattle.std.specs.Prelude.{◌≡◌, ℕ, ◌+◌, ◌≤◌, ◌<◌, List, [], ◌∷◌, ◌++◌, length, sum_by, slice_get, unwrap_or, Option, Some}
+use Rattle.std.specs.Prelude.{◌≡◌, ℕ, ◌+◌, ◌≤◌, ◌<◌, List, [], ◌∷◌, ◌++◌, length, sum_by, slice_get, unwrap_or, Option, Some, None, MatchOption}
+use Rattle.std.specs.Borrow.{Bor}
 use Rattle.rdf_model.specs.Terms as model
 use Rattle.rdf_model.specs.Terms.{Text}
 use Rattle.rdf_model.specs.Texts.{xsd_string}
@@ -39,6 +40,10 @@ pub record ReadsText (spare : ℕ) (found : Option (Text × Text)) (bytes : Text
   pub place_is : place ≡ length old
   pub room : length text + length rest ≤ length bytes + spare
 
+-- the place of the text and what stands behind it; nothing where there is none, and the texts are as they were
+abbrev pub FindsText : ℕ → Option (Text × Text) → Text → List Text → List Text → Option (ℕ × Bor Text) → Type 0
+FindsText spare found bytes old new result = MatchOption result ((found ≡ None) × (new ≡ old)) (λ r. ReadsText spare found bytes old new r.0 r.1.now)
+
 -- A term was found at the front of some bytes: its texts stand behind the old ones, at most two of them.
 pub record ReadsTerm (found : Option (model.Term × Text)) (bytes : Text) (old new : List Text) (place : TermPlace) (rest : Text) : Type 0 where
   pub is : found ≡ Some (term_at new place, rest)
@@ -48,9 +53,17 @@ pub record ReadsTerm (found : Option (model.Term × Text)) (bytes : Text) (old n
   pub count : length more ≤ 2
   pub room : sum_by length more + length rest ≤ length bytes + 64
 
+-- the place of the term and what stands behind it; nothing where there is none
+abbrev pub FindsTerm : Option (model.Term × Text) → Text → List Text → List Text → Option (TermPlace × Bor Text) → Type 0
+FindsTerm found bytes old new result = MatchOption result (found ≡ None) (λ r. ReadsTerm found bytes old new r.0 r.1.now)
+
 -- the triple of three terms by their places
 abbrev pub triple_at_places : List Text → TriplePlaces → model.Triple
 triple_at_places texts t = record { s = term_at texts t.s; p = term_at texts t.p; o = term_at texts t.o }
 
 abbrev pub AreWithin : ℕ → TriplePlaces → Type 0
 AreWithin n t = IsWithin n t.s × IsWithin n t.p × IsWithin n t.o
+
+-- the places of the triple's terms among the texts; nothing where there is none
+abbrev pub FindsTriple : Option model.Triple → List Text → Option TriplePlaces → Type 0
+FindsTriple found texts result = MatchOption result (found ≡ None) (λ t. (found ≡ Some (triple_at_places texts t)) × AreWithin (length texts) t)

@@ -1,9 +1,9 @@
 //! The productions of a line (`ntriples_model`'s `specs/Line.antt`), from its front.
-ghost use Rattle.std.specs.Prelude.{◌≡◌, ◌+◌, ◌<◌, ◌≤◌, length, slice_index, sum_by, None, Some, MatchOption};
+ghost use Rattle.std.specs.Prelude.{◌≡◌, ◌+◌, ◌<◌, ◌≤◌, length, slice_index, sum_by, IfNone};
 ghost use Rattle.ntriples_model.specs.Line as line;
 ghost use Rattle.text_lines.specs.Blanks as blanks;
 ghost use Rattle.ntriples_model.specs.Line.{subject_at, predicate_at, literal_at, object_at, triple_at};
-ghost use Rattle.ntriples.specs.Places.{ReadsTerm, triple_at_places, AreWithin};
+ghost use Rattle.ntriples.specs.Places.{FindsTerm, FindsTriple};
 
 use crate::place::{TermPlace, TriplePlaces};
 use crate::terminal::{iri, label, string, tag};
@@ -62,8 +62,8 @@ fn subject<'l>(bytes: &'l [u8], scope: &str, to: &mut Scratch) -> Option<(TermPl
     requires count { length to.old ≤ 6 }
     requires room { sum_by length to.old + length bytes.now + 64 ≤ 2098176 }
     requires scope { length scope.now ≤ 64 }
-    ensures { MatchOption result ((subject_at scope.now bytes.now ≡ None) × (to.new ≡ to.old))
-        (λ r. ReadsTerm (subject_at scope.now bytes.now) bytes.now to.old to.new r.0 r.1.now) }
+    ensures term { FindsTerm (subject_at scope.now bytes.now) bytes.now to.old to.new result }
+    ensures none { IfNone result (to.new ≡ to.old) }
 {
     if let Some((text, rest)) = iri(bytes, to) {
         return Some((TermPlace::Iri(text), rest));
@@ -76,8 +76,7 @@ fn subject<'l>(bytes: &'l [u8], scope: &str, to: &mut Scratch) -> Option<(TermPl
 fn predicate<'l>(bytes: &'l [u8], to: &mut Scratch) -> Option<(TermPlace, &'l [u8])>
     requires count { length to.old ≤ 6 }
     requires room { sum_by length to.old + length bytes.now ≤ 2098176 }
-    ensures { MatchOption result (predicate_at bytes.now ≡ None)
-        (λ r. ReadsTerm (predicate_at bytes.now) bytes.now to.old to.new r.0 r.1.now) }
+    ensures { FindsTerm (predicate_at bytes.now) bytes.now to.old to.new result }
 {
     let (text, rest) = iri(bytes, to)?;
     Some((TermPlace::Iri(text), rest))
@@ -87,8 +86,7 @@ fn predicate<'l>(bytes: &'l [u8], to: &mut Scratch) -> Option<(TermPlace, &'l [u
 fn literal<'l>(bytes: &'l [u8], to: &mut Scratch) -> Option<(TermPlace, &'l [u8])>
     requires count { length to.old ≤ 6 }
     requires room { sum_by length to.old + length bytes.now ≤ 2098176 }
-    ensures { MatchOption result (literal_at bytes.now ≡ None)
-        (λ r. ReadsTerm (literal_at bytes.now) bytes.now to.old to.new r.0 r.1.now) }
+    ensures { FindsTerm (literal_at bytes.now) bytes.now to.old to.new result }
 {
     let (form, rest) = string(bytes, to)?;
     let behind = after_blanks(rest);
@@ -111,8 +109,7 @@ fn object<'l>(bytes: &'l [u8], scope: &str, to: &mut Scratch) -> Option<(TermPla
     requires count { length to.old ≤ 6 }
     requires room { sum_by length to.old + length bytes.now + 64 ≤ 2098176 }
     requires scope { length scope.now ≤ 64 }
-    ensures { MatchOption result (object_at scope.now bytes.now ≡ None)
-        (λ r. ReadsTerm (object_at scope.now bytes.now) bytes.now to.old to.new r.0 r.1.now) }
+    ensures { FindsTerm (object_at scope.now bytes.now) bytes.now to.old to.new result }
 {
     if let Some(node) = subject(bytes, scope, to) {
         return Some(node);
@@ -125,8 +122,7 @@ pub(crate) fn triple(bytes: &[u8], scope: &str, to: &mut Scratch) -> Option<Trip
     requires empty { length to.old ≡ 0 }
     requires bytes { length bytes.now ≤ 1048576 }
     requires scope { length scope.now ≤ 64 }
-    ensures { MatchOption result (triple_at scope.now bytes.now ≡ None)
-        (λ t. (triple_at scope.now bytes.now ≡ Some (triple_at_places to.new t)) × AreWithin (length to.new) t) }
+    ensures { FindsTriple (triple_at scope.now bytes.now) to.new result }
 {
     let (s, rest) = subject(bytes, scope, to)?;
     let (p, rest) = predicate(after_blanks(rest), to)?;

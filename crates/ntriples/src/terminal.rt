@@ -1,7 +1,7 @@
 //! Terminals at the front of some bytes, with their texts put into a Scratch.
-ghost use Rattle.std.specs.Prelude.{◌≡◌, ◌+◌, ◌-◌, ◌<◌, ◌≤◌, [], ◌∷◌, ◌++◌, length, take, sum_by, None, MatchOption, IsUtf8};
+ghost use Rattle.std.specs.Prelude.{◌≡◌, ◌+◌, ◌-◌, ◌<◌, ◌≤◌, [], ◌∷◌, ◌++◌, length, take, sum_by, IsUtf8};
 ghost use Rattle.ntriples_model.specs.Terminals.{iri_at, string_at, tag_at};
-ghost use Rattle.ntriples.specs.Places.{ReadsText, scoped_label_at};
+ghost use Rattle.ntriples.specs.Places.{FindsText, scoped_label_at};
 
 use rdf_term::{Scratch, read_iri, read_label, read_string, read_tag};
 use std::str;
@@ -10,8 +10,7 @@ use std::str;
 pub(crate) fn iri<'l>(bytes: &'l [u8], to: &mut Scratch) -> Option<(usize, &'l [u8])>
     requires count { length to.old < 8 }
     requires room { sum_by length to.old + length bytes.now ≤ 2098176 }
-    ensures { MatchOption result ((iri_at bytes.now ≡ None) × (to.new ≡ to.old))
-        (λ r. ReadsText 0 (iri_at bytes.now) bytes.now to.old to.new r.0 r.1.now) }
+    ensures { FindsText 0 (iri_at bytes.now) bytes.now to.old to.new result }
 {
     let place = to.len();
     let size = read_iri(bytes, to)?;
@@ -22,8 +21,7 @@ pub(crate) fn iri<'l>(bytes: &'l [u8], to: &mut Scratch) -> Option<(usize, &'l [
 pub(crate) fn string<'l>(bytes: &'l [u8], to: &mut Scratch) -> Option<(usize, &'l [u8])>
     requires count { length to.old < 8 }
     requires room { sum_by length to.old + length bytes.now ≤ 2098176 }
-    ensures { MatchOption result ((string_at bytes.now ≡ None) × (to.new ≡ to.old))
-        (λ r. ReadsText 0 (string_at bytes.now) bytes.now to.old to.new r.0 r.1.now) }
+    ensures { FindsText 0 (string_at bytes.now) bytes.now to.old to.new result }
 {
     let place = to.len();
     let size = read_string(bytes, to)?;
@@ -34,8 +32,7 @@ pub(crate) fn string<'l>(bytes: &'l [u8], to: &mut Scratch) -> Option<(usize, &'
 pub(crate) fn tag<'l>(bytes: &'l [u8], to: &mut Scratch) -> Option<(usize, &'l [u8])>
     requires count { length to.old < 8 }
     requires room { sum_by length to.old + length bytes.now ≤ 2098176 }
-    ensures { MatchOption result ((tag_at bytes.now ≡ None) × (to.new ≡ to.old))
-        (λ r. ReadsText 0 (tag_at bytes.now) bytes.now to.old to.new r.0 r.1.now) }
+    ensures { FindsText 0 (tag_at bytes.now) bytes.now to.old to.new result }
 {
     let place = to.len();
     let size = read_tag(bytes, to)?;
@@ -64,8 +61,7 @@ pub(crate) fn label<'l>(bytes: &'l [u8], scope: &str, to: &mut Scratch) -> Optio
     requires count { length to.old < 8 }
     requires room { sum_by length to.old + length bytes.now + 64 ≤ 2098176 }
     requires scope { length scope.now ≤ 64 }
-    ensures { MatchOption result ((scoped_label_at scope.now bytes.now ≡ None) × (to.new ≡ to.old))
-        (λ r. ReadsText 64 (scoped_label_at scope.now bytes.now) bytes.now to.old to.new r.0 r.1.now) }
+    ensures { FindsText 64 (scoped_label_at scope.now bytes.now) bytes.now to.old to.new result }
 {
     let place = to.len();
     let size = read_label(bytes, to)?;

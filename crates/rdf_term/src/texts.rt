@@ -1,9 +1,6 @@
 //! The texts of terms: `canon`, in N-Triples, and `tsv`, in an answer (`rdf_model`'s `specs/Texts.antt`).
 ghost use Rattle.std.specs.Prelude.{◌≡◌, ◌++◌, OnOk, OnErr};
-ghost use Rattle.std.specs.Io.KnownBytes.{append_known};
-ghost use Rattle.tn_io.specs.Causes.{HasCause};
-ghost use Rattle.tn_io.specs.Known.{Begins};
-ghost use Rattle.tn_io.specs.OutText.{all_put};
+ghost use Rattle.tn_io.specs.OutText.{Puts};
 ghost use Rattle.rdf_model.specs.Texts.{canon, tsv, kind_text};
 ghost use Rattle.rdf_term.specs.Escapes.{form_text, term_text};
 ghost use Rattle.rdf_term.specs.Seen.{lent_kind, lent_term};
@@ -18,7 +15,6 @@ use trie_depth::Memory;
 pub const XSD_STRING: &str = "http://www.w3.org/2001/XMLSchema#string";
 
 /// Puts a text between two others.
-#[tactic(auto, using(tn_io::proofs::KnownLemmas::begins_trans))]
 fn put_between<K: Sink>(
     out: &mut Out<'_, K>,
     before: &str,
@@ -26,10 +22,7 @@ fn put_between<K: Sink>(
     behind: &str,
 ) -> Result<(), Failed>
     ensures same_sink { out.new.sink.ghost_name ≡ out.old.sink.ghost_name }
-    ensures ok { OnOk result (all_put K.written out.new ≡ append_known (all_put K.written out.old) (before.now ++ text.now ++ behind.now)) }
-    ensures err { OnErr result (Begins (K.written out.new.sink.now) (append_known (all_put K.written out.old) (before.now ++ text.now ++ behind.now))) }
-    ensures grows { Begins (K.written out.old.sink.now) (K.written out.new.sink.now) }
-    ensures cause { HasCause (K.faults out.old.sink.now) (K.faults out.new.sink.now) result }
+    ensures put { Puts K.written K.faults out.old out.new result (before.now ++ text.now ++ behind.now) }
 {
     out.put(before.as_bytes())?;
     out.put(text.as_bytes())?;
@@ -37,13 +30,9 @@ fn put_between<K: Sink>(
 }
 
 /// Puts a lexical form with its escapes.
-#[tactic(auto, using(tn_io::proofs::KnownLemmas::begins_trans))]
 fn put_form<K: Sink>(out: &mut Out<'_, K>, escapes: Escapes, form: &str) -> Result<(), Failed>
     ensures same_sink { out.new.sink.ghost_name ≡ out.old.sink.ghost_name }
-    ensures ok { OnOk result (all_put K.written out.new ≡ append_known (all_put K.written out.old) (form_text escapes form.now)) }
-    ensures err { OnErr result (Begins (K.written out.new.sink.now) (append_known (all_put K.written out.old) (form_text escapes form.now))) }
-    ensures grows { Begins (K.written out.old.sink.now) (K.written out.new.sink.now) }
-    ensures cause { HasCause (K.faults out.old.sink.now) (K.faults out.new.sink.now) result }
+    ensures put { Puts K.written K.faults out.old out.new result (form_text escapes form.now) }
 {
     let mut left = form;
     loop {
@@ -58,13 +47,9 @@ fn put_form<K: Sink>(out: &mut Out<'_, K>, escapes: Escapes, form: &str) -> Resu
 }
 
 /// Puts what stands behind the string of a literal.
-#[tactic(auto, using(tn_io::proofs::KnownLemmas::begins_trans))]
 fn put_kind<K: Sink>(out: &mut Out<'_, K>, kind: KindRef<'_>) -> Result<(), Failed>
     ensures same_sink { out.new.sink.ghost_name ≡ out.old.sink.ghost_name }
-    ensures ok { OnOk result (all_put K.written out.new ≡ append_known (all_put K.written out.old) (kind_text (lent_kind kind.entry))) }
-    ensures err { OnErr result (Begins (K.written out.new.sink.now) (append_known (all_put K.written out.old) (kind_text (lent_kind kind.entry)))) }
-    ensures grows { Begins (K.written out.old.sink.now) (K.written out.new.sink.now) }
-    ensures cause { HasCause (K.faults out.old.sink.now) (K.faults out.new.sink.now) result }
+    ensures put { Puts K.written K.faults out.old out.new result (kind_text (lent_kind kind.entry)) }
 {
     match kind {
         KindRef::Typed(datatype) => {
@@ -77,13 +62,9 @@ fn put_kind<K: Sink>(out: &mut Out<'_, K>, kind: KindRef<'_>) -> Result<(), Fail
     }
 }
 
-#[tactic(auto, using(tn_io::proofs::KnownLemmas::begins_trans))]
 fn put_term<K: Sink>(out: &mut Out<'_, K>, escapes: Escapes, t: TermRef<'_>) -> Result<(), Failed>
     ensures same_sink { out.new.sink.ghost_name ≡ out.old.sink.ghost_name }
-    ensures ok { OnOk result (all_put K.written out.new ≡ append_known (all_put K.written out.old) (term_text escapes (lent_term t.entry))) }
-    ensures err { OnErr result (Begins (K.written out.new.sink.now) (append_known (all_put K.written out.old) (term_text escapes (lent_term t.entry)))) }
-    ensures grows { Begins (K.written out.old.sink.now) (K.written out.new.sink.now) }
-    ensures cause { HasCause (K.faults out.old.sink.now) (K.faults out.new.sink.now) result }
+    ensures put { Puts K.written K.faults out.old out.new result (term_text escapes (lent_term t.entry)) }
 {
     match t {
         TermRef::Iri(text) => put_between(out, "<", text, ">"),
@@ -100,10 +81,7 @@ fn put_term<K: Sink>(out: &mut Out<'_, K>, escapes: Escapes, t: TermRef<'_>) -> 
 /// Puts the N-Triples text of a term.
 pub fn canon_to<K: Sink>(t: TermRef<'_>, out: &mut Out<'_, K>) -> Result<(), Failed>
     ensures same_sink { out.new.sink.ghost_name ≡ out.old.sink.ghost_name }
-    ensures ok { OnOk result (all_put K.written out.new ≡ append_known (all_put K.written out.old) (canon (lent_term t.entry))) }
-    ensures err { OnErr result (Begins (K.written out.new.sink.now) (append_known (all_put K.written out.old) (canon (lent_term t.entry)))) }
-    ensures grows { Begins (K.written out.old.sink.now) (K.written out.new.sink.now) }
-    ensures cause { HasCause (K.faults out.old.sink.now) (K.faults out.new.sink.now) result }
+    ensures put { Puts K.written K.faults out.old out.new result (canon (lent_term t.entry)) }
 {
     put_term(out, Escapes::Canon, t)
 }
@@ -111,10 +89,7 @@ pub fn canon_to<K: Sink>(t: TermRef<'_>, out: &mut Out<'_, K>) -> Result<(), Fai
 /// Puts the text of a term in an answer.
 pub fn tsv_to<K: Sink>(t: TermRef<'_>, out: &mut Out<'_, K>) -> Result<(), Failed>
     ensures same_sink { out.new.sink.ghost_name ≡ out.old.sink.ghost_name }
-    ensures ok { OnOk result (all_put K.written out.new ≡ append_known (all_put K.written out.old) (tsv (lent_term t.entry))) }
-    ensures err { OnErr result (Begins (K.written out.new.sink.now) (append_known (all_put K.written out.old) (tsv (lent_term t.entry)))) }
-    ensures grows { Begins (K.written out.old.sink.now) (K.written out.new.sink.now) }
-    ensures cause { HasCause (K.faults out.old.sink.now) (K.faults out.new.sink.now) result }
+    ensures put { Puts K.written K.faults out.old out.new result (tsv (lent_term t.entry)) }
 {
     put_term(out, Escapes::Tsv, t)
 }

@@ -12,8 +12,8 @@ use Rattle.query_plan.specs.declared.query.Query as plan
 use Rattle.query_plan.specs.Seen.{query_seen}
 use Rattle.tn_io.specs.declared.out.Out.{Out}
 use Rattle.tn_io.specs.declared.outside.Failed.{Failed}
-use Rattle.answer_text.specs.Puts.{Puts}
-use Rattle.answer_text.proofs.PutLemmas.{puts_both, puts_first, puts_same}
+use Rattle.tn_io.specs.OutText.{Puts}
+use Rattle.tn_io.proofs.PutLemmas.{puts_both, puts_first, puts_same}
 use Rattle.run_model.specs.Answers.{line_text, row_line, reply_text, Rows, rows_told, Listed, answer_text}
 use Rattle.solution_model.specs.Answers.{chosen_rows, cut, sorted_answer}
 use Rattle.solution_model.specs.AnswerLaws.{unlimited, sorted_texts}

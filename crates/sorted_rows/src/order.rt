@@ -5,7 +5,7 @@ ghost use Rattle.rdf_model.specs.Graph.{Graph};
 ghost use Rattle.query_grammar.specs.Meaning as meaning;
 ghost use Rattle.run_model.specs.Answers.{Listed, answer_text, line_text};
 ghost use Rattle.solution_model.specs.Answers.{sorted_answer};
-ghost use Rattle.answer_text.specs.Puts.{Puts};
+ghost use Rattle.tn_io.specs.OutText.{Puts};
 ghost use Rattle.listing_text.specs.Rows.{HasWidth};
 ghost use Rattle.sorted_rows.specs.Sorted.{IsUncut, GivesAllRows, all_texts};
 

@@ -8,7 +8,7 @@ use Rattle.tn_io.specs.OutText.{all_put}
 use Rattle.tn_io.specs.declared.out.Out.{Out}
 use Rattle.tn_io.specs.declared.outside.Failed.{Failed}
 use Rattle.tn_io.proofs.KnownLemmas.{begins_trans}
-use Rattle.answer_text.specs.Puts.{Puts}
+use Rattle.tn_io.specs.OutText.{Puts}
 use Rattle.tentris_core.specs.Puts.{PassesOn}
 use Rattle.tentris_core.proofs.Parts.{part_of}
 

@@ -1,15 +1,12 @@
 //! Files over memory. The first entry of a name counts. The number of a call, from 1, stays at 2^64 - 1 once it has reached it.
-ghost use Rattle.std.specs.Prelude.{◌≡◌, ◌≤◌, ◌<◌, ◌↔◌, ◌⊎◌, ℕ, List, drop, length, None, Some, IfOk, OnOk, OnErr};
+ghost use Rattle.std.specs.Prelude.{◌≡◌, ◌≤◌, ◌<◌, ◌↔◌, ℕ, List, drop, length, None, Some, IfOk, OnOk, OnErr};
 ghost use Rattle.std.specs.Result.{IsErr};
-ghost use Rattle.std.specs.Option.{option_map, IsSome};
-ghost use Rattle.std.specs.Ordering.{nat_cmp};
-ghost use Rattle.std.specs.Cmp.Lexicographic.{slice_cmp};
+ghost use Rattle.std.specs.Option.{option_map};
 ghost use Rattle.std.specs.FinMap as map;
-ghost use Rattle.std.specs.List.{Contains};
 ghost use Rattle.std.specs.Io.{ReadsAtMost};
 ghost use Rattle.tn_io.specs.Causes.{one_more};
 ghost use Rattle.tn_io.specs.FileFaults.{HasCauseAt};
-ghost use Rattle.file_model.specs.FileMap.{GivesAt, ReadsAt};
+ghost use Rattle.file_model.specs.FileMap.{files_of, GivesAt, ReadsAt};
 
 use crate::bytes::Bytes;
 use crate::files::Files;
@@ -19,7 +16,7 @@ use crate::text::Text;
 
 // The bytes of the first entry of a name.
 fn bytes_of<'a>(files: &'a [(Text, Bytes)], name: &str) -> Option<&'a [u8]>
-    ensures { option_map (λ bytes. bytes.now) result ≡ map.get (map.from_entries {R = slice_cmp nat_cmp} files.now) name.now }
+    ensures { option_map (λ bytes. bytes.now) result ≡ map.get (files_of files.now) name.now }
 {
     for (text, bytes) in files {
         if name == text.as_str() {
@@ -64,7 +61,7 @@ impl MemFiles {
     /// A call gives at most `piece` bytes.
     pub fn new(files: Vec<(Text, Bytes)>, piece: usize, fails: Vec<u64>) -> MemFiles
         requires { 0 < piece }
-        ensures files { mem_files result ≡ map.from_entries files.items }
+        ensures files { mem_files result ≡ files_of files.items }
         ensures faults { mem_faults result ≡ 0 }
         ensures calls { mem_calls result ≡ 0 }
         ensures piece { mem_piece result ≡ piece }
@@ -81,7 +78,7 @@ impl MemFiles {
 }
 
 impl Files for MemFiles {
-    ghost use Rattle.tn_io.specs.MemoryFiles.{mem_files, mem_faults, mem_fails, mem_calls, mem_piece};
+    ghost use Rattle.tn_io.specs.MemoryFiles.{mem_files, mem_faults, mem_fails, mem_calls, mem_piece, IsToFail};
 
     ghost files = { λ s. Some (mem_files s) };
 
@@ -94,7 +91,7 @@ impl Files for MemFiles {
         ensures cause { HasCauseAt (λ _ _. mem_faults self.old) (λ _ _. mem_faults self.new) name.now at result }
         ensures piece { IfOk result (λ n. n ≤ mem_piece self.old) }
         ensures calls { mem_calls self.new ≡ one_more (mem_calls self.old) }
-        ensures fails { IsErr result ↔ (Contains (mem_fails self.old) (mem_calls self.new) ⊎ (map.get (mem_files self.old) name.now ≡ None)) }
+        ensures fails { IsErr result ↔ IsToFail self.old (mem_calls self.new) name.now }
         ensures counted { OnErr result (mem_faults self.new ≡ one_more (mem_faults self.old)) }
         ensures uncounted { OnOk result (mem_faults self.new ≡ mem_faults self.old) }
         ensures same_plan { (mem_fails self.new ≡ mem_fails self.old) × (mem_piece self.new ≡ mem_piece self.old) }
@@ -121,7 +118,7 @@ impl PureFiles {
     ghost use Rattle.tn_io.specs.MemoryFiles.{pure_files, pure_faults};
 
     pub fn new(files: Vec<(Text, Bytes)>) -> PureFiles
-        ensures files { pure_files result ≡ map.from_entries files.items }
+        ensures files { pure_files result ≡ files_of files.items }
         ensures faults { (name : List ℕ) → (at : ℕ) → pure_faults result name at ≡ 0 }
     {
         PureFiles { files, missing: 0 }
@@ -129,7 +126,7 @@ impl PureFiles {
 }
 
 impl Files for PureFiles {
-    ghost use Rattle.tn_io.specs.MemoryFiles.{pure_files, pure_faults};
+    ghost use Rattle.tn_io.specs.MemoryFiles.{pure_files, pure_faults, NoFileFailed};
 
     ghost files = { λ s. Some (pure_files s) };
 
@@ -141,7 +138,7 @@ impl Files for PureFiles {
         ensures same { pure_files self.new ≡ pure_files self.old }
         ensures cause { HasCauseAt (pure_faults self.old) (pure_faults self.new) name.now at result }
         ensures fails { IsErr result ↔ (map.get (pure_files self.old) name.now ≡ None) }
-        ensures never { (other : List ℕ) → (place : ℕ) → IsSome (map.get (pure_files self.new) other) → pure_faults self.new other place ≡ 0 }
+        ensures never { NoFileFailed self.new }
     {
         let Some(bytes) = bytes_of(&self.files, name) else {
             self.missing = self.missing.saturating_add(1);

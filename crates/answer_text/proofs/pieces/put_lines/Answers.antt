@@ -6,7 +6,7 @@ use Rattle.tn_io.specs.Known.{Begins}
 use Rattle.tn_io.specs.OutText.{all_put}
 use Rattle.run_model.specs.Answers.{line_text}
 use Rattle.tn_io.proofs.KnownLemmas.{begins_self, begins_trans}
-use Rattle.answer_text.proofs.PutLemmas.{put_more, put_cut, puts_same, line_joined}
+use Rattle.answer_text.proofs.PutLemmas.{put_more, put_cut, line_joined}
 use Rattle.answer_text.proofs.pieces.put_lines.Goals as goal
 
 pub loop-i-preserved : goal.loop-i-preserved

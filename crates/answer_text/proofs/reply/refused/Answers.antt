@@ -1,6 +1,6 @@
 use Rattle.std.proofs.Common.{sym, subst}
 use Rattle.run_model.specs.Answers.{refusal_text}
-use Rattle.answer_text.specs.Puts.{Puts}
+use Rattle.tn_io.specs.OutText.{Puts}
 use Rattle.answer_text.specs.Seen.{refusal_of}
 use Rattle.answer_text.proofs.reply.refused.Goals as goal
 

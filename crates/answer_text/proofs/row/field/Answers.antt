@@ -12,7 +12,7 @@ returns-in_err-put-clause-put g c =
     let failed = err_from_is_err_and c.from_residual.result c.from_residual.ensures.1 in
     record {
       put = rw failed.1 tt;
-      cut = rw failed.1 (front_cut _ _ _ (parting c.args.first) (field_text (option_map lent_term c.args.t)) c.before-2.ensures c.in_err-put.ensures.err);
+      cut = rw failed.1 (front_cut _ _ _ (parting c.args.first) (field_text (option_map lent_term c.args.t)) c.before-2.ensures c.in_err-put.ensures.puts.cut);
       cause = search rules;
-      grows = c.in_err-put.ensures.grows;
+      grows = c.in_err-put.ensures.puts.grows;
     }

@@ -2,7 +2,7 @@ use Rattle.std.proofs.lemmas.Result.{err_from_is_err_and}
 use Rattle.std.specs.Prelude.{map, codes}
 use Rattle.query_plan.specs.Seen.{column_seen}
 use Rattle.solution_model.specs.Texts.{header_text}
-use Rattle.answer_text.proofs.PutLemmas.{puts_both, puts_first}
+use Rattle.tn_io.proofs.PutLemmas.{puts_both, puts_first}
 use Rattle.answer_text.proofs.row.header.Goals as goal
 
 pub returns-in_err-put_names-clause-put : goal.returns-in_err-put_names-clause-put

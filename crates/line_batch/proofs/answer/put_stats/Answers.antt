@@ -1,7 +1,7 @@
 use Rattle.std.proofs.lemmas.Result.{err_from_is_err_and}
 use Rattle.run_model.specs.Answers.{figures_text, reply_text, Stats}
 use Rattle.line_batch.specs.Seen.{figures_seen}
-use Rattle.answer_text.proofs.PutLemmas.{puts_both, puts_first}
+use Rattle.tn_io.proofs.PutLemmas.{puts_both, puts_first}
 use Rattle.line_batch.proofs.answer.put_stats.Goals as goal
 
 pub returns-in_err-put_figures-clause-put : goal.returns-in_err-put_figures-clause-put

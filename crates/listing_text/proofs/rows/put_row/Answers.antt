@@ -1,7 +1,7 @@
 use Rattle.std.proofs.lemmas.Result.{err_from_is_err_and}
 use Rattle.std.specs.Prelude.{codes}
 use Rattle.solution_model.specs.Texts.{row_text}
-use Rattle.answer_text.proofs.PutLemmas.{puts_both, puts_first}
+use Rattle.tn_io.proofs.PutLemmas.{puts_both, puts_first}
 use Rattle.listing_text.proofs.rows.put_row.Goals as goal
 
 pub returns-in_err-put_fields-clause-put : goal.returns-in_err-put_fields-clause-put

@@ -1,4 +1,4 @@
-use Rattle.std.proofs.Common.{◌∙◌, length, drop, ap, arith}
+use Rattle.std.proofs.Common.{◌∙◌, drop, ap, arith}
 use Rattle.std.proofs.lemmas.List.{take_all, length-drop}
 use Rattle.ntriples.proofs.BlankLemmas.{behind_first}
 use Rattle.ntriples.proofs.grammar.skip_blanks.Goals as goal

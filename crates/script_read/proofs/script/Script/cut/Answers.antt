@@ -6,5 +6,5 @@ use Rattle.script_read.proofs.script.Script.cut.Goals as goal
 pub returns-clause-still : goal.returns-clause-still
 returns-clause-still c = λ max taken ls h.
     let e = c.take-count.ensures in
-    cut_more _ _ c.take-count.result.0 c.take-count.result.1 e.within (ahead_cut c.self.inside.at c.self.inside.end c.take-count.result.0 c.self.inside.buffer) refl refl refl e.cut e.lines e.whole max taken ls
+    cut_more _ _ c.take-count.result.0 c.take-count.result.1 e.within (ahead_cut c.self.inside.at c.self.inside.end c.take-count.result.0 c.self.inside.buffer) refl refl refl e.cut e.takes.lines e.takes.whole max taken ls
     (subst (λ s. IsOpen max s taken ls) (sym c.self.view_is) h)

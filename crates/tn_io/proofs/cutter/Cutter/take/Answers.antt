@@ -10,23 +10,11 @@ loop-taken-init c =
     (ap (λ s. whole_to_come s []) (sym c.self.view_is)
     ∙ no_whole_left (record { line = c.self.inside.line.items; cr = c.self.inside.after_cr; told = c.self.inside.told; ended = c.self.inside.ended }) (search rules))
 
-pub returns-then-is_some-clause-lines : goal.returns-then-is_some-clause-lines
-returns-then-is_some-clause-lines c =
-    (more_taken c.args.self.now c.loop-taken.self c.part-count.new.self c.args.piece.now _ c.loop-taken.taken c.part-count.result.0 c.part-count.result.1 c.loop-taken.invariant
+pub returns-then-is_some-clause-takes : goal.returns-then-is_some-clause-takes
+returns-then-is_some-clause-takes c =
+    more_taken c.args.self.now c.loop-taken.self c.part-count.new.self c.args.piece.now _ c.loop-taken.taken c.part-count.result.0 c.part-count.result.1 c.loop-taken.invariant
     (take_all (length c.args.piece.now - c.loop-taken.taken) (drop c.loop-taken.taken c.args.piece.now) (omega (arith, length-drop c.loop-taken.taken c.args.piece.now)))
-    c.part-count.ensures.within.1 c.part-count.ensures.takes).lines
-
-pub returns-then-is_some-clause-whole : goal.returns-then-is_some-clause-whole
-returns-then-is_some-clause-whole c =
-    (more_taken c.args.self.now c.loop-taken.self c.part-count.new.self c.args.piece.now _ c.loop-taken.taken c.part-count.result.0 c.part-count.result.1 c.loop-taken.invariant
-    (take_all (length c.args.piece.now - c.loop-taken.taken) (drop c.loop-taken.taken c.args.piece.now) (omega (arith, length-drop c.loop-taken.taken c.args.piece.now)))
-    c.part-count.ensures.within.1 c.part-count.ensures.takes).whole
-
-pub returns-then-is_some-clause-none_earlier : goal.returns-then-is_some-clause-none_earlier
-returns-then-is_some-clause-none_earlier c =
-    (more_taken c.args.self.now c.loop-taken.self c.part-count.new.self c.args.piece.now _ c.loop-taken.taken c.part-count.result.0 c.part-count.result.1 c.loop-taken.invariant
-    (take_all (length c.args.piece.now - c.loop-taken.taken) (drop c.loop-taken.taken c.args.piece.now) (omega (arith, length-drop c.loop-taken.taken c.args.piece.now)))
-    c.part-count.ensures.within.1 c.part-count.ensures.takes).none_earlier
+    c.part-count.ensures.within.1 c.part-count.ensures.takes
 
 pub loop-taken-preserved : goal.loop-taken-preserved
 loop-taken-preserved c =

@@ -1,12 +1,11 @@
 -- A map changed run by run: the changes that are made are in hand.
-use Rattle.std.specs.Prelude.{◌≡◌, ℕ, ◌+◌, ◌<◌, ◌^◌, List, [], ◌∷◌, ◌++◌, map, refl, Option}
+use Rattle.std.specs.Prelude.{◌≡◌, ℕ, ◌<◌, ◌^◌, List, [], ◌∷◌, ◌++◌, map, refl, Option}
 use Rattle.std.proofs.Common.{sym, subst, arith}
 use Rattle.std.specs.List.Sorted.{IsStrictlySortedBy}
 use Rattle.std.specs.Ordering.{nat_cmp}
 use Rattle.std.specs.Cmp.Lexicographic.{slice_cmp}
 use Rattle.std.specs.FinMap as finite
 use Rattle.std.specs.FinSet as set
-use Rattle.hypertrie_model.specs.IdSets.{IdSet}
 use Rattle.hypertrie_model.specs.Changes.{after, IsChange}
 use Rattle.trie_depth.specs.declared.id.Id.{Id}
 use Rattle.edge_map.specs.declared.edge.Edge.{Edge}

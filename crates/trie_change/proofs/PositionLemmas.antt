@@ -1,10 +1,6 @@
 -- The edges at the positions of a changed set of triples: what stays, what is in hand, and what is given back.
-use Rattle.std.specs.Prelude.{◌≡◌, ℕ, ◌+◌, ◌<◌, ◌≤◌, ◌^◌, refl, Option, None, Some, Result, Ok, Err, OnErr}
-use Rattle.std.proofs.Common.{sym, ◌∙◌, ap, subst, arith}
-use Rattle.std.specs.FinMap as map
-use Rattle.std.specs.FinSet as set
-use Rattle.hypertrie_model.specs.IdSets.{IdSet}
-use Rattle.edge_map.specs.Edges.{Edges}
+use Rattle.std.specs.Prelude.{◌≡◌, ℕ, ◌+◌, ◌≤◌, refl, Option, None, Some, Result, Ok, Err, OnErr}
+use Rattle.std.proofs.Common.{sym, ◌∙◌, subst, arith}
 use Rattle.trie_context.specs.declared.tables.Tables.{Tables}
 use Rattle.trie_context.specs.Rows.{row_of}
 use Rattle.trie_context.specs.Kept.{AreKept}

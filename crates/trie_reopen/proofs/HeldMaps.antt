@@ -21,7 +21,7 @@ use Rattle.trie_context.specs.FitEdges.{set_at, StandsAt, option_leads}
 use Rattle.trie_context.specs.Holds.{holds_of, at_depth}
 use Rattle.trie_context.specs.MoveLaws.{if_same, if_other, same_or_not, at_here}
 use Rattle.change_log.specs.declared.step.Step.{Step}
-use Rattle.change_log.specs.Log.{edge_hold, keeps}
+use Rattle.change_log.specs.Log.{edge_hold}
 use Rattle.change_log.specs.Logged.{IsLogged}
 use Rattle.change_log.specs.Laws.{logged_on, others_stand, keeps_more}
 use Rattle.trie_change.specs.declared.change.Change.{Change}

@@ -9,7 +9,6 @@ use Rattle.std.specs.FinSet as set
 use Rattle.hypertrie_model.specs.FoldLaws.{sum_over-empty}
 use Rattle.hypertrie_model.specs.IdSets.{IdSet}
 use Rattle.hypertrie_model.specs.MapLaws.{same_maps}
-use Rattle.hypertrie_model.specs.Sets.{empty}
 use Rattle.hypertrie_model.specs.Slices.{slice}
 use Rattle.edge_map.specs.declared.edge.Edge.{Edge}
 use Rattle.edge_map.specs.declared.edge.Edge.TheVariants.{Key, Node as ToRow}
@@ -21,7 +20,7 @@ use Rattle.trie_node.specs.Sets.{leads, edges_in, edges_of, set_hash}
 use Rattle.trie_context.specs.declared.tables.Tables.{Tables}
 use Rattle.trie_context.specs.Rows.{node_of, node_set, set_of}
 use Rattle.trie_context.specs.EdgeLaws.{edge_filled, edge_named}
-use Rattle.trie_context.specs.FitEdges.{FitsAt, set_at, StandsAt}
+use Rattle.trie_context.specs.FitEdges.{StandsAt}
 use Rattle.trie_context.specs.Kept.{AreKept}
 use Rattle.trie_context.specs.NodeLaws.{node_formed, node_set_is}
 use Rattle.trie_change.specs.PairLaws.{lone_leads}

@@ -1,9 +1,9 @@
 -- The row of a set of pairs opened, and its two maps changed one after the other.
-use Rattle.std.specs.Prelude.{◌≡◌, ℕ, ◌+◌, ◌<◌, ◌≤◌, ◌^◌, List, length, refl, Option, None, Some}
-use Rattle.std.proofs.Common.{sym, ◌∙◌, ap, subst, arith}
+use Rattle.std.specs.Prelude.{◌≡◌, ℕ, ◌+◌, ◌≤◌, List, refl, Option, None, Some}
+use Rattle.std.proofs.Common.{sym, ◌∙◌, arith}
 use Rattle.std.specs.Ordering.{nat_cmp}
 use Rattle.std.specs.FinSet as set
-use Rattle.hypertrie_model.specs.Changes.{after, IsChange}
+use Rattle.hypertrie_model.specs.Changes.{after}
 use Rattle.hypertrie_model.specs.IdSets.{IdSet}
 use Rattle.hypertrie_model.specs.Sets.{empty}
 use Rattle.hypertrie_model.specs.Slices.{slice}

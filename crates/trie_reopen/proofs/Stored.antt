@@ -1,5 +1,5 @@
 -- A changed node stored: its row stands for its set, and has its hold.
-use Rattle.std.specs.Prelude.{◌≡◌, ℕ, ◌+◌, ◌≤◌, List, ◌∷◌, Option, None, Some, refl}
+use Rattle.std.specs.Prelude.{◌≡◌, ℕ, ◌≤◌, List, ◌∷◌, Option, None, Some, refl}
 use Rattle.std.proofs.Common.{sym, ◌∙◌, ap, subst, arith}
 use Rattle.std.specs.FinSet as set
 use Rattle.edge_map.specs.declared.edge.Edge.{Edge}
@@ -14,7 +14,7 @@ use Rattle.trie_context.specs.Kept.{AreKept}
 use Rattle.trie_context.specs.MoveLaws.{at_same, leads_one, zero_at}
 use Rattle.trie_context.specs.NodeLaws.{interned_set}
 use Rattle.trie_context.specs.Rows.{node_set, set_of}
-use Rattle.change_log.specs.declared.step.RowStep.TheVariants.{Opened, Made, Found}
+use Rattle.change_log.specs.declared.step.RowStep.TheVariants.{Made, Found}
 use Rattle.change_log.specs.declared.step.Step.{Step}
 use Rattle.change_log.specs.declared.step.Step.TheVariants.{Pairs, Triples}
 use Rattle.change_log.specs.Log.{edge_hold}

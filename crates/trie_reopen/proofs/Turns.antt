@@ -1,7 +1,6 @@
 -- One of the maps in hand is changed while the others wait.
 use Rattle.std.specs.Prelude.{◌≡◌, ℕ, ◌+◌, ◌≤◌, List}
 use Rattle.std.proofs.Common.{refl, arith}
-use Rattle.std.specs.Ordering.{nat_cmp}
 use Rattle.hypertrie_model.specs.IdSets.{IdSet}
 use Rattle.edge_map.specs.Edges.{Edges}
 use Rattle.trie_node.specs.Sets.{edges_in}

@@ -1,5 +1,5 @@
 -- Tables in which nothing was gained are as before; what follows for want of memory.
-use Rattle.std.specs.Prelude.{◌≡◌, ℕ, ◌+◌, Option, Result, Ok, Err, OnErr}
+use Rattle.std.specs.Prelude.{◌≡◌, ℕ, Option, Result, Ok, Err, OnErr}
 use Rattle.std.proofs.Common.{arith}
 use Rattle.edge_map.specs.declared.edge.Edge.{Edge}
 use Rattle.trie_context.specs.declared.tables.Tables.{Tables}

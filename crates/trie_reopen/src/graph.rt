@@ -19,7 +19,9 @@ use change_log::Log;
 use edge_map::EdgeMap;
 use std::alloc::Global;
 use std::sync::ledger::Ledger;
-use trie_change::{Change, changed_size, toggled_triples, triple_edges, triple_figures, triples_by_key};
+use trie_change::{
+    Change, changed_size, toggled_triples, triple_edges, triple_figures, triples_by_key,
+};
 use trie_context::{Context, Root};
 use trie_depth::{Memory, Mix, Steps, Trip};
 use trie_node::Node;
@@ -73,13 +75,17 @@ pub fn reopen_triples<M: Mix, W: Ledger, V: Ledger>(
     log.reserve()?;
     open_triples(context, row, log);
     let by_first = triples_by_key(alloc, batch, 0)?;
-    let one = replace_triple_map(alloc, context, change, &first, &by_first, log, interns, retains)?;
+    let one = replace_triple_map(
+        alloc, context, change, &first, &by_first, log, interns, retains,
+    )?;
     let by_second = triples_by_key(alloc, batch, 1)?;
-    let two =
-        replace_triple_map(alloc, context, change, &second, &by_second, log, interns, retains)?;
+    let two = replace_triple_map(
+        alloc, context, change, &second, &by_second, log, interns, retains,
+    )?;
     let by_third = triples_by_key(alloc, batch, 2)?;
-    let three =
-        replace_triple_map(alloc, context, change, &third, &by_third, log, interns, retains)?;
+    let three = replace_triple_map(
+        alloc, context, change, &third, &by_third, log, interns, retains,
+    )?;
     let node = Node::Full {
         size,
         hash,

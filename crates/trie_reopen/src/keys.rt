@@ -12,9 +12,9 @@ use change_log::{Log, RowStep, Step};
 use edge_map::Edge;
 use std::alloc::Global;
 use std::sync::ledger::Ledger;
+use trie_change::{Change, change_keys};
 use trie_context::Context;
 use trie_depth::{Memory, Mix, Pair, Steps};
-use trie_change::{Change, change_keys};
 
 /// Whether the edge leads to no row.
 fn leads_nowhere(edge: Option<Edge>) -> bool

@@ -16,9 +16,9 @@ use change_log::Log;
 use edge_map::{Edge, EdgeMap};
 use std::alloc::Global;
 use std::sync::ledger::Ledger;
+use trie_change::{Change, pair_run};
 use trie_context::Context;
 use trie_depth::{Id, Memory, Mix, Pair, Steps};
-use trie_change::{Change, pair_run};
 
 /// What each run of pairs makes of the edge under its first key. The old map's edges were in hand, and those of the changed
 /// map are.
@@ -75,6 +75,15 @@ pub fn replace_pair_map<M: Mix, W: Ledger>(
     ensures ticks { interns.new ≤ interns.old + length pairs.now }
 {
     let mut changes = Vec::new(alloc);
-    replace_each(alloc, context, change, old, pairs, &mut changes, log, interns)?;
+    replace_each(
+        alloc,
+        context,
+        change,
+        old,
+        pairs,
+        &mut changes,
+        log,
+        interns,
+    )?;
     old.with(&changes)
 }

@@ -20,10 +20,10 @@ use change_log::{Log, RowStep, Step};
 use edge_map::{Edge, EdgeMap};
 use std::alloc::Global;
 use std::sync::ledger::Ledger;
+use trie_change::{Change, change_pairs, pair_edges};
 use trie_context::{Context, Held, Kept};
 use trie_depth::{L2, Memory, Mix, Steps, Trip};
 use trie_node::Node;
-use trie_change::{Change, change_pairs, pair_edges};
 
 /// The edges at both positions of the pairs of a row.
 pub fn pair_maps<M: Mix>(

@@ -46,7 +46,9 @@ pub fn change_open<M: Mix, W: Ledger, V: Ledger>(
 {
     context.is_kept();
     let mut log = Log::new(alloc);
-    match replace_root(alloc, context, change, root, batch, &mut log, interns, retains) {
+    match replace_root(
+        alloc, context, change, root, batch, &mut log, interns, retains,
+    ) {
         Ok(new) => {
             let was = mem::replace(root, new);
             Ok(Undo { was, log })
@@ -103,5 +105,13 @@ pub fn shrink_open<M: Mix, W: Ledger, V: Ledger>(
     ensures root { OnErr result (root.new ≡ root.old) }
     ensures ticks { interns.new ≤ interns.old + (9 * length batch.now + 10) }
 {
-    change_open(alloc, context, Change::Shrink, root, batch, interns, retains)
+    change_open(
+        alloc,
+        context,
+        Change::Shrink,
+        root,
+        batch,
+        interns,
+        retains,
+    )
 }

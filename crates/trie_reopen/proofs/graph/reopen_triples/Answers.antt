@@ -1,6 +1,5 @@
-use Rattle.std.proofs.Common.{rules, ◌≡◌, ℕ, IfOk, ◌+◌, ◌*◌, ◌^◌, ◌≤◌, ◌<◌, length, refl, subst, sym, ap, ◌∙◌, arith, Some}
+use Rattle.std.proofs.Common.{rules, ◌≡◌, IfOk, ◌+◌, ◌≤◌, length, refl, subst, sym, ap, ◌∙◌, arith, Some}
 use Rattle.std.specs.Ordering.{nat_cmp}
-use Rattle.std.specs.FinSet as set
 use Rattle.hypertrie_model.specs.Changes.{after}
 use Rattle.hypertrie_model.specs.Slices.{slice}
 use Rattle.trie_depth.specs.Tuples.{trip_tuple}
@@ -636,4 +635,3 @@ returns-clause-grew g c =
     t4 l4 c.in_ok-three.three k c.in_ok-three.ensures.logged c.in_ok-three.ensures.changed (n + m + k) (omega arith) in
     err_then (Grows g.M.Mix.mixed t4 c.store_triples.new.context l4 c.store_triples.new.log.steps) (Grows g.M.Mix.mixed t0 c.store_triples.new.context l0 c.store_triples.new.log.steps) c.store_triples.result
     (grows_on g.M.Mix.mixed t0 t4 c.store_triples.new.context l0 l4 c.store_triples.new.log.steps s4.logged.grew) c.store_triples.ensures.grew
-

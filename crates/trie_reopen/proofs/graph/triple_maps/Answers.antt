@@ -1,4 +1,4 @@
-use Rattle.std.proofs.Common.{◌∙◌, arith}
+use Rattle.std.proofs.Common.{arith}
 use Rattle.trie_reopen.proofs.OwnMaps.{triple_edges_are}
 use Rattle.trie_reopen.proofs.graph.triple_maps.Goals as goal
 

@@ -1,4 +1,4 @@
-use Rattle.std.proofs.Common.{◌≡◌, ◌∙◌, ◌∷◌, ap, sym, subst, refl, arith}
+use Rattle.std.proofs.Common.{◌∙◌, ◌∷◌, ap, sym, subst, refl}
 use Rattle.change_log.specs.declared.step.RowStep.TheVariants.{Replaced}
 use Rattle.change_log.specs.declared.step.Step.TheVariants.{Keys}
 use Rattle.change_log.specs.Laws.{logged_replaced, logged_none}

@@ -1,4 +1,4 @@
-use Rattle.std.proofs.Common.{◌+◌, ◌≤◌, ◌-◌, length}
+use Rattle.std.proofs.Common.{◌+◌, ◌≤◌, length}
 use Rattle.edge_map.specs.Edges.{changed}
 use Rattle.change_log.specs.Logged.{IsLogged}
 use Rattle.trie_change.specs.After.{map_hold}

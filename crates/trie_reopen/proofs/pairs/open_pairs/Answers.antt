@@ -1,10 +1,9 @@
 use Rattle.std.specs.Prelude.{◌⊎◌}
-use Rattle.std.proofs.Common.{◌≡◌, ℕ, ◌∙◌, ◌∷◌, ap, sym, subst, refl, Some, None}
+use Rattle.std.proofs.Common.{◌≡◌, ℕ, ◌∙◌, sym, subst, refl, Some, None}
 use Rattle.change_log.specs.declared.step.RowStep.TheVariants.{Opened}
 use Rattle.change_log.specs.declared.step.Step.TheVariants.{Pairs}
 use Rattle.change_log.specs.Laws.{logged_opened, pairs_out}
 use Rattle.change_log.specs.Logged.{IsLogged}
-use Rattle.edge_map.specs.declared.edge.Edge.{Edge}
 use Rattle.edge_map.specs.declared.edge.Edge.TheVariants.{Node as ToRow}
 use Rattle.trie_node.specs.Sets.{edges_of}
 use Rattle.trie_context.specs.Holds.{one_at, at_depth}

@@ -1,5 +1,4 @@
 use Rattle.std.proofs.Common.{◌∙◌, ◌∷◌, ap, subst, None, Some}
-use Rattle.edge_map.specs.declared.edge.Edge.TheVariants.{Node as ToRow}
 use Rattle.change_log.specs.declared.step.RowStep.TheVariants.{Made, Found}
 use Rattle.change_log.specs.declared.step.Step.TheVariants.{Pairs}
 use Rattle.trie_context.specs.Interned.{IsInterned, kept_row, came_back}

@@ -1,4 +1,4 @@
-use Rattle.std.proofs.Common.{rules, ◌≡◌, ℕ, IfOk, ◌+◌, ◌*◌, ◌^◌, ◌≤◌, length, refl, subst, sym, ap, ◌∙◌, arith, Some}
+use Rattle.std.proofs.Common.{rules, ◌≡◌, IfOk, ◌+◌, ◌≤◌, length, subst, sym, ap, ◌∙◌, arith, Some}
 use Rattle.std.specs.Ordering.{nat_cmp}
 use Rattle.std.specs.FinSet as set
 use Rattle.hypertrie_model.specs.Changes.{after}
@@ -443,4 +443,3 @@ returns-clause-grew g c =
     t3 l3 c.in_ok-two.two (length m) c.in_ok-two.ensures.logged c.in_ok-two.ensures.changed (length n + length m) (omega arith) in
     err_then (Grows g.M.Mix.mixed t3 c.store_pairs.new.context l3 c.store_pairs.new.log.steps) (Grows g.M.Mix.mixed t0 c.store_pairs.new.context l0 c.store_pairs.new.log.steps) c.store_pairs.result
     (grows_on g.M.Mix.mixed t0 t3 c.store_pairs.new.context l0 l3 c.store_pairs.new.log.steps s3.logged.grew) c.store_pairs.ensures.grew
-

@@ -1,5 +1,5 @@
 -- The hold of a root among those of the tables.
-use Rattle.std.specs.Prelude.{◌≡◌, ℕ, ◌≤◌}
+use Rattle.std.specs.Prelude.{ℕ, ◌≤◌}
 use Rattle.std.proofs.Common.{subst, sym, arith}
 use Rattle.trie_context.specs.declared.root.Root.{Root}
 use Rattle.trie_context.specs.declared.root.Root.TheVariants.{Empty, One, Many}

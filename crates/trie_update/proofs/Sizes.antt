@@ -1,5 +1,5 @@
 -- The size of a set changed by a batch of less than half as many.
-use Rattle.std.specs.Prelude.{◌≡◌, ℕ, ◌+◌, ◌*◌, ◌<◌, ◌≤◌, refl}
+use Rattle.std.specs.Prelude.{◌≡◌, ℕ, ◌+◌, ◌*◌, ◌≤◌, refl}
 use Rattle.std.proofs.Common.{arith}
 use Rattle.std.specs.FinSet as set
 use Rattle.hypertrie_model.specs.Changes.{after, IsChange}

@@ -1,4 +1,4 @@
-use Rattle.std.proofs.Common.{◌∙◌, ◌∷◌, ◌^◌, ℕ, ap, sym, subst, refl, arith, Some}
+use Rattle.std.proofs.Common.{◌∙◌, ◌∷◌, ◌^◌, ap, sym, subst, refl, arith}
 use Rattle.change_log.specs.declared.step.RowStep.TheVariants.{Replaced}
 use Rattle.change_log.specs.declared.step.Step.TheVariants.{Triples}
 use Rattle.change_log.specs.Laws.{logged_replaced, logged_as}

@@ -1,4 +1,4 @@
-use Rattle.std.proofs.Common.{◌<◌, ◌≤◌, ◌^◌, subst, arith}
+use Rattle.std.proofs.Common.{◌≤◌, subst, arith}
 use Rattle.std.specs.FinSet as set
 use Rattle.hypertrie_model.specs.Changes.{IsChange}
 use Rattle.trie_depth.specs.Tuples.{trip_tuple}

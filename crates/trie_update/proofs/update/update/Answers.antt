@@ -1,6 +1,5 @@
-use Rattle.std.proofs.Common.{◌∙◌, ◌^◌, ℕ, arith}
+use Rattle.std.proofs.Common.{◌∙◌, ◌^◌, arith}
 use Rattle.trie_update.proofs.Settled.{kept_held, places, moved, stay, held_after, same_set}
-use Rattle.trie_update.proofs.update.update.Given as given
 use Rattle.trie_update.proofs.update.update.Goals as goal
 
 pub settle-requires-clause-held : goal.settle-requires-clause-held

@@ -2,6 +2,7 @@
 ghost use Rattle.std.specs.Prelude.{◌≡◌, ◌++◌, codes, decimal};
 ghost use Rattle.run_model.specs.Answers.{refusal_text, reply_text, figures_text};
 ghost use Rattle.tn_io.specs.OutText.{Puts};
+ghost use Rattle.answer_text.specs.Fields.{change_text};
 ghost use Rattle.answer_text.specs.Seen.{refusal_of, reply_of, figures_of};
 
 use crate::pieces::put_pieces;
@@ -72,7 +73,7 @@ fn put_changed<K: Sink>(
     now: u64,
 ) -> Result<(), Failed>
     ensures same_sink { out.new.sink.ghost_name ≡ out.old.sink.ghost_name }
-    ensures put { Puts K.written K.faults out.old out.new result (done.now ++ decimal changed ++ codes " now " ++ decimal now ++ codes "\n") }
+    ensures put { Puts K.written K.faults out.old out.new result (change_text done.now changed now) }
 {
     let mut first = Buffer::new();
     let mut second = Buffer::new();

@@ -3,10 +3,10 @@ ghost use Rattle.std.specs.Prelude.{◌≡◌, ◌++◌, codes, map, nat_eq};
 ghost use Rattle.std.specs.Option.{option_map};
 ghost use Rattle.rdf_term.specs.Seen.{lent_term};
 ghost use Rattle.query_plan.specs.Seen.{query_seen, column_seen};
-ghost use Rattle.solution_model.specs.Texts.{header_text, field_text};
+ghost use Rattle.solution_model.specs.Texts.{header_text};
 ghost use Rattle.run_model.specs.Answers.{line_text};
 ghost use Rattle.tn_io.specs.OutText.{Puts};
-ghost use Rattle.answer_text.specs.Fields.{parting};
+ghost use Rattle.answer_text.specs.Fields.{parting, field_behind};
 
 use crate::pieces::put_pieces;
 use query_plan::{Columns, Query};
@@ -60,7 +60,7 @@ pub fn field<K: Sink>(
     out: &mut Out<'_, K>,
 ) -> Result<(), Failed>
     ensures same_sink { out.new.sink.ghost_name ≡ out.old.sink.ghost_name }
-    ensures put { Puts K.written K.faults out.old out.new result (parting first ++ field_text (option_map lent_term t.entry)) }
+    ensures put { Puts K.written K.faults out.old out.new result (field_behind first (option_map lent_term t.entry)) }
 {
     out.put(before(first))?;
     match t {

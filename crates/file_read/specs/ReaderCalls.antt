@@ -32,10 +32,14 @@ pub record NextLine (files : Option FileMap) (name : List ℕ) (s t : State) (re
   pub q : List ℕ
   pub tells : (taken : List ℕ) (told : List Line) → HasTold files name s taken told → Tells files name t (taken ++ q) told result
 
+-- the count of reads of the name that failed at the place is higher
+abbrev pub RoseAt : FaultCounts → FaultCounts → List ℕ → ℕ → Type 0
+RoseAt before now name place = Rose (before name place) (now name place)
+
 -- No count falls. A failed read raised that of its name at the place; else none was raised.
 pub record IsCounted {A : Type 0} (before now : FaultCounts) (name : List ℕ) (place : ℕ) (result : Result A FileFault) : Type 0 where
   pub later : (other : List ℕ) → (at : ℕ) → before other at ≤ now other at
-  pub read : result ≡ Err Read → Rose (before name place) (now name place)
+  pub read : result ≡ Err Read → RoseAt before now name place
   pub told : OnOk result (now ≡ before)
   pub long : result ≡ Err Long → now ≡ before
 

@@ -47,7 +47,7 @@ impl Model for FileReader {
 }
 
 impl FileReader {
-    ghost use Rattle.file_read.specs.ReaderCalls.{NextLine, Takes, TellsMore, EndsAt, IsCounted};
+    ghost use Rattle.file_read.specs.ReaderCalls.{NextLine, Takes, TellsMore, EndsAt, RoseAt, IsCounted};
 
     /// For files of at most `max` bytes. Takes all buffers of reading.
     pub fn new(alloc: Global, max: u64) -> Result<FileReader, Memory>
@@ -102,7 +102,7 @@ impl FileReader {
         ensures same { F.files files.new ≡ F.files files.old }
         ensures err { OnErr result (self.new ≡ self.old) }
         ensures later { (other : List ℕ) → (at : ℕ) → F.faults files.old other at ≤ F.faults files.new other at }
-        ensures failed { OnErr result (Rose (F.faults files.old name.now self.old.place) (F.faults files.new name.now self.old.place)) }
+        ensures failed { OnErr result (RoseAt (F.faults files.old) (F.faults files.new) name.now self.old.place) }
         ensures unraised { OnOk result (F.faults files.new ≡ F.faults files.old) }
         ensures fewer { result ≡ Ok true → to_read self.new < to_read self.old }
         ensures no_more { to_go self.new ≤ to_go self.old }

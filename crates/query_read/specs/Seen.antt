@@ -1,5 +1,5 @@
 -- What the reader keeps, as the definitions have it.
-use Rattle.std.specs.Prelude.{Bool, true, false, List, [], ◌∷◌, Option, Some, None}
+use Rattle.std.specs.Prelude.{Bool, true, false, List, [], ◌∷◌, map, Option, Some, None}
 use Rattle.query_grammar.specs.Block as model
 use Rattle.query_grammar.specs.BlockFront as front
 use Rattle.query_grammar.specs.Meaning as meaning
@@ -31,6 +31,9 @@ role_seen role.Other = model.Other
 
 abbrev pub triple_seen : Triple → model.Triple
 triple_seen t = record { s = t.s; p = t.p; o = t.o }
+
+abbrev pub triples_seen : List Triple → List model.Triple
+triples_seen triples = map triple_seen triples
 
 abbrev pub frame_seen : Frame → front.Frame
 frame_seen (frame.Subject i) = front.Subject i
@@ -70,3 +73,6 @@ name_seen (name.Fresh i) = meaning.Fresh i
 abbrev pub name_seen_in : Option Name → Option meaning.Name
 name_seen_in None = None
 name_seen_in (Some n) = Some (name_seen n)
+
+abbrev pub names_seen : List Name → List meaning.Name
+names_seen names = map name_seen names

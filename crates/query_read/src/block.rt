@@ -4,10 +4,8 @@ ghost use Rattle.std.specs.Prelude.{◌≡◌, ◌+◌, ◌-◌, ◌≤◌, ℕ,
 ghost use Rattle.std.specs.Option.{option_map};
 ghost use Rattle.query_grammar.specs.Block as model;
 ghost use Rattle.query_grammar.specs.BlockFront as front;
-ghost use Rattle.query_grammar.specs.BlockFront.{triples_of};
-ghost use Rattle.query_grammar.specs.Meaning.{parts_from};
-ghost use Rattle.query_read.specs.Reads.{block_within, datatype_step};
-ghost use Rattle.query_read.specs.Seen.{role_seen, expect_seen, frame_seen, next_seen, ended_seen, triple_seen};
+ghost use Rattle.query_read.specs.Reads.{triples_within, Steps, StepsPastDatatype};
+ghost use Rattle.query_read.specs.Seen.{role_seen, expect_seen, frame_seen, next_seen, ended_seen, triples_seen};
 
 use crate::brackets::{Brackets, Frame};
 use crate::role::Role;
@@ -134,7 +132,7 @@ fn blank(brackets: &mut Brackets) -> Option<Next>
 
 /// What begins a statement.
 fn statement(role: Role, i: usize, brackets: &mut Brackets) -> Result<Option<Next>, Memory>
-    ensures { IfOk result (λ n. next_seen n brackets.new ≡ front.step front.Statement brackets.old (role_seen role) i) }
+    ensures { IfOk result (λ n. Steps front.Statement role i brackets.old n brackets.new) }
 {
     match role {
         Role::Text => Ok(expecting(Expect::TextSubject(i))),
@@ -149,7 +147,7 @@ fn statement(role: Role, i: usize, brackets: &mut Brackets) -> Result<Option<Nex
 
 /// What stands first in a pair of brackets.
 fn bracket(s: usize, role: Role, i: usize, brackets: &mut Brackets) -> Option<Next>
-    ensures { next_seen result brackets.new ≡ front.step (front.Bracket s) brackets.old (role_seen role) i }
+    ensures { Steps (front.Bracket s) role i brackets.old result brackets.new }
 {
     match role {
         Role::Close => blank(brackets),
@@ -159,7 +157,7 @@ fn bracket(s: usize, role: Role, i: usize, brackets: &mut Brackets) -> Option<Ne
 
 /// What follows a text that is a subject.
 fn text_subject(s: usize, role: Role, i: usize) -> Option<Next>
-    ensures { (stack : List front.Frame) → next_seen result stack ≡ front.step (front.TextSubject s) stack (role_seen role) i }
+    ensures { (stack : List front.Frame) → Steps (front.TextSubject s) role i stack result stack }
 {
     match role {
         Role::LangTag => expecting(Expect::Verb(s)),
@@ -176,7 +174,7 @@ fn object(
     i: usize,
     brackets: &mut Brackets,
 ) -> Result<Option<Next>, Memory>
-    ensures { IfOk result (λ n. next_seen n brackets.new ≡ front.step (front.ObjectOf s v) brackets.old (role_seen role) i) }
+    ensures { IfOk result (λ n. Steps (front.ObjectOf s v) role i brackets.old n brackets.new) }
 {
     match role {
         Role::Text => Ok(ends(Expect::TextObject(s, v), s, v, i)),
@@ -191,7 +189,7 @@ fn object(
 
 /// What follows a text that is an object.
 fn text_object(s: usize, v: usize, role: Role, i: usize, brackets: &mut Brackets) -> Option<Next>
-    ensures { next_seen result brackets.new ≡ front.step (front.TextObject s v) brackets.old (role_seen role) i }
+    ensures { Steps (front.TextObject s v) role i brackets.old result brackets.new }
 {
     match role {
         Role::LangTag => expecting(Expect::Behind(s, v)),
@@ -202,7 +200,7 @@ fn text_object(s: usize, v: usize, role: Role, i: usize, brackets: &mut Brackets
 
 /// The name of a datatype.
 fn datatype(behind: Expect, role: Role) -> Option<Next>
-    ensures { (stack : List front.Frame) → next_seen result stack ≡ datatype_step (expect_seen behind) stack (role_seen role) }
+    ensures { (stack : List front.Frame) → StepsPastDatatype behind role stack result }
 {
     match role {
         Role::Name => expecting(behind),
@@ -212,7 +210,7 @@ fn datatype(behind: Expect, role: Role) -> Option<Next>
 
 /// What follows a semicolon.
 fn semi(s: usize, role: Role, i: usize, brackets: &mut Brackets) -> Option<Next>
-    ensures { next_seen result brackets.new ≡ front.step (front.Semi s) brackets.old (role_seen role) i }
+    ensures { Steps (front.Semi s) role i brackets.old result brackets.new }
 {
     match role {
         Role::Name | Role::Variable | Role::TypeOf => expecting(Expect::ObjectOf(s, i)),
@@ -223,7 +221,7 @@ fn semi(s: usize, role: Role, i: usize, brackets: &mut Brackets) -> Option<Next>
 
 /// What follows the brackets that are a subject.
 fn behind_subject(s: usize, role: Role, i: usize, brackets: &mut Brackets) -> Option<Next>
-    ensures { next_seen result brackets.new ≡ front.step (front.BehindSubject s) brackets.old (role_seen role) i }
+    ensures { Steps (front.BehindSubject s) role i brackets.old result brackets.new }
 {
     match role {
         Role::Name | Role::Variable | Role::TypeOf => expecting(Expect::ObjectOf(s, i)),
@@ -238,7 +236,7 @@ fn step(
     i: usize,
     brackets: &mut Brackets,
 ) -> Result<Option<Next>, Memory>
-    ensures { IfOk result (λ n. next_seen n brackets.new ≡ front.step (expect_seen expect) brackets.old (role_seen role) i) }
+    ensures { IfOk result (λ n. Steps (expect_seen expect) role i brackets.old n brackets.new) }
 {
     match expect {
         Expect::Statement => statement(role, i, brackets),
@@ -278,7 +276,7 @@ pub(crate) fn triples(
     to: usize,
 ) -> Result<Option<Vec<Triple>>, Memory>
     requires { to ≤ length all.now }
-    ensures { IfOk result (λ r. option_map (λ v. map triple_seen v.items) r ≡ triples_of (parts_from from (block_within from to all.now))) }
+    ensures { IfOk result (λ r. option_map (λ v. triples_seen v.items) r ≡ triples_within from to all.now) }
 {
     let mut expect = Expect::Statement;
     let mut brackets = Brackets::new(alloc);
@@ -298,7 +296,7 @@ pub(crate) fn triples(
 
 /// Adds a triple, where one has ended.
 fn push_some(found: &mut Vec<Triple>, ended: Option<Triple>) -> Result<(), Memory>
-    ensures { OnOk result (map triple_seen found.new.items ≡ map triple_seen found.old.items ++ ended_seen ended) }
+    ensures { OnOk result (triples_seen found.new.items ≡ triples_seen found.old.items ++ ended_seen ended) }
 {
     if let Some(triple) = ended {
         found.push(triple)?;

@@ -1,10 +1,10 @@
 //! The columns of a query's answer.
-ghost use Rattle.std.specs.Prelude.{◌≡◌, ◌≤◌, [], ◌∷◌, ◌++◌, IfOk, OnOk, map, take, length};
+ghost use Rattle.std.specs.Prelude.{◌≡◌, ◌≤◌, [], ◌∷◌, IfOk, OnOk, map, take, length};
 ghost use Rattle.query_grammar.specs.Meaning as spec;
 ghost use Rattle.query_grammar.specs.Signs.{OpenBrace};
 ghost use Rattle.query_plan.specs.Seen.{column_seen};
-ghost use Rattle.query_read.specs.Reads.{ListsColumns};
-ghost use Rattle.query_read.specs.Seen.{name_seen};
+ghost use Rattle.query_read.specs.Reads.{columns_for, AddsColumnOf, ListsColumns};
+ghost use Rattle.query_read.specs.Seen.{name_seen, names_seen};
 
 use crate::name::{Name, number_among, variables};
 use crate::place::place_of;
@@ -17,7 +17,7 @@ use trie_depth::Memory;
 /// The label of a variable, where a pattern has it.
 fn label_of(names: &[Name<'_>], name: Name<'_>) -> Option<u8>
     requires { length names.now ≤ 96 }
-    ensures { result ≡ (spec.column_of (map name_seen names.now) (name_seen name.entry)).label }
+    ensures { result ≡ (spec.column_of (names_seen names.now) (name_seen name.entry)).label }
 {
     let number = number_among(names, name);
     if number < names.len() {
@@ -29,7 +29,7 @@ fn label_of(names: &[Name<'_>], name: Name<'_>) -> Option<u8>
 /// The column of a variable.
 fn column_of(alloc: Global, names: &[Name<'_>], name: &str) -> Result<Column, Memory>
     requires { length names.now ≤ 96 }
-    ensures { IfOk result (λ c. column_seen c ≡ spec.column_of (map name_seen names.now) (spec.VariableName name.now)) }
+    ensures { IfOk result (λ c. column_seen c ≡ spec.column_of (names_seen names.now) (spec.VariableName name.now)) }
 {
     let label = label_of(names, Name::Variable(name));
     Ok(Column {
@@ -46,8 +46,7 @@ fn push_column(
     columns: &mut Columns,
 ) -> Result<(), Memory>
     requires { length names.now ≤ 96 }
-    ensures { OnOk result (map column_seen columns.new
-        ≡ map column_seen columns.old ++ map (spec.column_of (map name_seen names.now)) (spec.variables_from (name_seen name.entry ∷ []))) }
+    ensures { OnOk result (AddsColumnOf (names_seen names.now) (name_seen name.entry) columns.old columns.new) }
 {
     let Name::Variable(text) = name else {
         return Ok(());
@@ -58,8 +57,7 @@ fn push_column(
 /// The columns of the variables of a list.
 fn columns_of(alloc: Global, names: &[Name<'_>], chosen: &[Name<'_>]) -> Result<Columns, Memory>
     requires { length names.now ≤ 96 }
-    ensures { IfOk result (λ cs. map column_seen cs
-        ≡ map (spec.column_of (map name_seen names.now)) (spec.variables_from (map name_seen chosen.now))) }
+    ensures { IfOk result (λ cs. map column_seen cs ≡ columns_for (names_seen names.now) (names_seen chosen.now)) }
 {
     let mut columns = Columns::new(alloc);
     for i in 0..chosen.len() {
@@ -85,7 +83,7 @@ pub(crate) fn columns(
 ) -> Result<Option<Columns>, Memory>
     requires head { end ≡ spec.place_of OpenBrace all.now }
     requires within { end ≤ length all.now }
-    requires names { map name_seen names.now ≡ spec.names_of all.now }
+    requires names { names_seen names.now ≡ spec.names_of all.now }
     requires few { length names.now ≤ 96 }
     ensures { IfOk result (λ r. ListsColumns all.now r) }
 {

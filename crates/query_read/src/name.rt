@@ -1,9 +1,10 @@
 //! The labels of a query by their names: variables, labels of blank nodes, and pairs of brackets.
-ghost use Rattle.std.specs.Prelude.{◌≡◌, ◌≤◌, ◌<◌, ◌+◌, IfOk, OnOk, [], map, take, length, IfSome};
+ghost use Rattle.std.specs.Prelude.{◌≡◌, ◌≤◌, ◌<◌, ◌+◌, IfOk, OnOk, [], take, length, IfSome};
 ghost use Rattle.std.specs.Option.{option_map};
 ghost use Rattle.query_grammar.specs.Meaning as spec;
+ghost use Rattle.query_grammar.specs.Meaning.{with_some};
 ghost use Rattle.query_read.specs.Reads.{block_within, variable_of, ListsVariables};
-ghost use Rattle.query_read.specs.Seen.{name_seen, name_seen_in};
+ghost use Rattle.query_read.specs.Seen.{name_seen, name_seen_in, names_seen};
 
 use query_text::{Lexeme, Sign, behind_one, behind_two};
 use std::alloc::Global;
@@ -45,7 +46,7 @@ impl<'a> Name<'a> {
 
 /// The number of a name, or how many names there are where it is not among them.
 pub(crate) fn number_among(names: &[Name<'_>], name: Name<'_>) -> usize
-    ensures number { result ≡ spec.number_among (map name_seen names.now) (name_seen name.entry) }
+    ensures number { result ≡ spec.number_among (names_seen names.now) (name_seen name.entry) }
     ensures within { result ≤ length names.now }
 {
     for i in 0..names.len() {
@@ -58,7 +59,7 @@ pub(crate) fn number_among(names: &[Name<'_>], name: Name<'_>) -> usize
 
 /// Adds a name at the end, unless it is among the names.
 fn add<'a>(names: &mut Vec<Name<'a>>, name: Option<Name<'a>>) -> Result<(), Memory>
-    ensures { OnOk result (map name_seen names.new.items ≡ spec.with_some (map name_seen names.old.items) (name_seen_in name.entry)) }
+    ensures { OnOk result (names_seen names.new.items ≡ with_some (names_seen names.old.items) (name_seen_in name.entry)) }
 {
     let Some(name) = name else {
         return Ok(());
@@ -78,7 +79,7 @@ pub(crate) fn names<'a>(
     to: usize,
 ) -> Result<Vec<Name<'a>>, Memory>
     requires { to ≤ length all.now }
-    ensures { IfOk result (λ v. map name_seen v.items ≡ spec.names_from [] from (block_within from to all.now)) }
+    ensures { IfOk result (λ v. names_seen v.items ≡ spec.names_from [] from (block_within from to all.now)) }
 {
     let mut names = Vec::new(alloc);
     for i in from..to {
@@ -92,7 +93,7 @@ pub(crate) fn variables<'a>(
     alloc: Global,
     all: &[Lexeme<'a>],
 ) -> Result<Option<Vec<Name<'a>>>, Memory>
-    ensures { IfOk result (λ r. ListsVariables all.now (option_map (λ v. map name_seen v.items) r)) }
+    ensures { IfOk result (λ r. ListsVariables all.now (option_map (λ v. names_seen v.items) r)) }
 {
     let mut names = Vec::new(alloc);
     for lexeme in all {

@@ -1,11 +1,11 @@
 //! The patterns of triples.
-ghost use Rattle.std.specs.Prelude.{◌≡◌, ◌≤◌, false, IfOk, map, length, slice_index_or};
+ghost use Rattle.std.specs.Prelude.{◌≡◌, ◌≤◌, false, IfOk, length, slice_index_or};
 ghost use Rattle.std.specs.List.{list_all};
 ghost use Rattle.std.specs.Option.{option_map};
 ghost use Rattle.query_grammar.specs.Meaning as spec;
-ghost use Rattle.query_plan.specs.Seen.{place_seen, pattern_seen};
-ghost use Rattle.query_read.specs.Reads.{Declares, Knows, has_place, has_pattern};
-ghost use Rattle.query_read.specs.Seen.{name_seen, triple_seen};
+ghost use Rattle.query_plan.specs.Seen.{place_seen};
+ghost use Rattle.query_read.specs.Reads.{Declares, Knows, has_place, has_pattern, IsPattern, ListsPatterns};
+ghost use Rattle.query_read.specs.Seen.{names_seen, triple_seen, triples_seen};
 
 use crate::block::Triple;
 use crate::name::{Name, number_among};
@@ -48,7 +48,7 @@ fn has_pattern(all: &[Lexeme<'_>], known: &[bool], triple: Triple) -> bool
 /// Whether each triple has a pattern.
 pub(crate) fn all_known(all: &[Lexeme<'_>], known: &[bool], triples: &[Triple]) -> bool
     requires { Knows known.now all.now }
-    ensures { result ≡ list_all (has_pattern all.now) (map triple_seen triples.now) }
+    ensures { result ≡ list_all (has_pattern all.now) (triples_seen triples.now) }
 {
     for i in 0..triples.len() {
         if !has_pattern(all, known, triples[i]) {
@@ -68,7 +68,7 @@ fn place_at(
 ) -> Result<Option<Place>, Memory>
     requires declared { Declares prefixes.now all.now }
     requires few { length names.now ≤ 96 }
-    ensures { IfOk result (λ r. option_map place_seen r ≡ spec.place_at all.now (map name_seen names.now) i) }
+    ensures { IfOk result (λ r. option_map place_seen r ≡ spec.place_at all.now (names_seen names.now) i) }
 {
     if i >= all.len() {
         return Ok(None);
@@ -91,7 +91,7 @@ fn pattern_at(
 ) -> Result<Option<Pattern>, Memory>
     requires declared { Declares prefixes.now all.now }
     requires few { length names.now ≤ 96 }
-    ensures { IfOk result (λ r. option_map pattern_seen r ≡ spec.pattern_at all.now (map name_seen names.now) (triple_seen triple)) }
+    ensures { IfOk result (λ r. IsPattern all.now (names_seen names.now) (triple_seen triple) r) }
 {
     let Some(s) = place_at(alloc, all, prefixes, names, triple.s)? else {
         return Ok(None);
@@ -115,8 +115,7 @@ pub(crate) fn patterns_of(
 ) -> Result<Option<Patterns>, Memory>
     requires declared { Declares prefixes.now all.now }
     requires few { length names.now ≤ 96 }
-    ensures { IfOk result (λ r. option_map (map pattern_seen) r
-        ≡ spec.patterns_of all.now (map name_seen names.now) (map triple_seen triples.now)) }
+    ensures { IfOk result (λ r. ListsPatterns all.now (names_seen names.now) (triples_seen triples.now) r) }
 {
     let mut patterns = Patterns::new(alloc);
     for i in 0..triples.len() {

@@ -3,7 +3,7 @@ ghost use Rattle.std.specs.Prelude.{◌≡◌, ◌≤◌, ◌<◌, ℕ, List, Op
 ghost use Rattle.std.specs.Option.{option_map};
 ghost use Rattle.std.specs.BTreeMap.{get_by_text};
 ghost use Rattle.query_grammar.specs.Texts as spec;
-ghost use Rattle.query_read.specs.Reads.{Declares, declared_first};
+ghost use Rattle.query_read.specs.Reads.{Declares, AddsFirst};
 
 use query_text::{Lexeme, Sign, iri_text};
 use std::alloc::Global;
@@ -52,8 +52,7 @@ fn declare(
     iris: &mut BTreeMap<String, Text>,
     all: &[Lexeme<'_>],
 ) -> Result<(), Memory>
-    ensures { OnOk result ((name : List ℕ) → get_by_text iris.new name
-        ≡ spec.or_before (get_by_text iris.old name) (declared_first name all.now)) }
+    ensures { OnOk result (AddsFirst (get_by_text iris.old) (get_by_text iris.new) all.now) }
 {
     let [prefix, name, iri, ..] = all else {
         return Ok(());

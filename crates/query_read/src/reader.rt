@@ -4,14 +4,13 @@ ghost use Rattle.std.specs.List.{list_all};
 ghost use Rattle.std.specs.Str.{chars};
 ghost use Rattle.query_grammar.specs.Lexemes.{lexed};
 ghost use Rattle.query_grammar.specs.Meaning as spec;
-ghost use Rattle.query_grammar.specs.BlockFront.{triples_of};
 ghost use Rattle.query_grammar.specs.Signs.{OpenBrace, CloseBrace};
 ghost use Rattle.query_grammar.specs.Texts.{is_sound};
 ghost use Rattle.query_plan.specs.Labels.{IsLabelled};
 ghost use Rattle.query_plan.specs.Seen.{pattern_seen};
 ghost use Rattle.query_read.specs.LabelledBlock.{IsLabelledBlock};
-ghost use Rattle.query_read.specs.Reads.{Reads};
-ghost use Rattle.query_read.specs.Seen.{name_seen, triple_seen};
+ghost use Rattle.query_read.specs.Reads.{Reads, triples_behind};
+ghost use Rattle.query_read.specs.Seen.{names_seen, triples_seen};
 
 use crate::block::{Triple, triples};
 use crate::column::columns;
@@ -83,8 +82,8 @@ fn read_triples(
     requires within { closing ≤ length all.now }
     requires small { opening ≤ length all.now }
     requires sound { list_all is_sound all.now ≡ true }
-    requires triples { triples_of (spec.parts_from (opening + 1) (spec.block_of all.now)) ≡ Some (map triple_seen triples.now) }
-    ensures query { Reads (spec.of_triples all.now (Some (map triple_seen triples.now))) result }
+    requires triples { triples_behind opening all.now ≡ Some (triples_seen triples.now) }
+    ensures query { Reads (spec.of_triples all.now (Some (triples_seen triples.now))) result }
     ensures labelled { IfOk result IsLabelled }
 {
     let prefixes = Prefixes::of(alloc, all)?;
@@ -112,7 +111,7 @@ fn read_columns(
 ) -> Result<Query, ReadFault>
     requires opening { opening ≡ spec.place_of OpenBrace all.now }
     requires small { opening ≤ length all.now }
-    requires names { map name_seen names.now ≡ spec.names_of all.now }
+    requires names { names_seen names.now ≡ spec.names_of all.now }
     requires few_names { length names.now ≤ 96 }
     requires few_patterns { length patterns ≤ 32 }
     requires labelled { IsLabelledBlock (spec.names_of all.now) (map pattern_seen patterns) }

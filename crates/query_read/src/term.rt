@@ -6,7 +6,7 @@ ghost use Rattle.std.specs.Option.{option_map};
 ghost use Rattle.query_grammar.specs.Meaning as spec;
 ghost use Rattle.query_grammar.specs.Texts.{is_sound, name_iri, string_text};
 ghost use Rattle.query_lex.specs.Kinds.{kind_of};
-ghost use Rattle.query_read.specs.Reads.{Declares, Knows, prefixed_by};
+ghost use Rattle.query_read.specs.Reads.{Declares, Knows, prefixed_by, literal_at};
 ghost use Rattle.query_grammar.specs.Signs.{sign_of};
 ghost use Rattle.rdf_model.specs.Terms as rdf;
 ghost use Rattle.rdf_term.specs.Seen as seen;
@@ -120,8 +120,7 @@ fn literal(
 ) -> Result<Option<Term>, Memory>
     requires declared { Declares prefixes.now all.now }
     requires small { i < length all.now }
-    ensures { IfOk result (λ r. option_map term_of r
-        ≡ spec.literal (string_text (spec.at all.now i).text) (spec.kind_by (sign_of (spec.at all.now (i + 1))) all.now i)) }
+    ensures { IfOk result (λ r. option_map term_of r ≡ literal_at all.now i) }
 {
     let Some(form) = string_text(alloc, text_at(all, i))? else {
         return Ok(None);

@@ -1,9 +1,13 @@
 -- What is read of a text, and what stands behind it.
-use Rattle.std.specs.Prelude.{◌≡◌, ℕ, ◌<◌, ◌≤◌, List, drop, length, Option, Some, None, MatchOption, IsUtf8, encode_utf8, ◌==◌, if◌then◌else◌}
+use Rattle.std.specs.Prelude.{◌≡◌, ℕ, ◌<◌, ◌≤◌, List, [], ◌∷◌, drop, length, Option, Some, None, MatchOption, IsUtf8, encode_utf8, ◌==◌, if◌then◌else◌}
 use Rattle.std.specs.Borrow.{Bor}
 use Rattle.std.specs.Str.{chars}
 use Rattle.ntriples_model.specs.Terminals.{hex_at, string_escape_at}
 use Rattle.query_text.specs.Seen.{meaning, longer}
+
+-- the first character, and what follows it
+abbrev pub ReadsFirst : List ℕ → Option (ℕ × Bor (List ℕ)) → Type 0
+ReadsFirst text r = MatchOption r (chars text ≡ []) (λ p. (chars text ≡ p.0 ∷ chars p.1.now) × (length p.1.now < length text) × IsUtf8 p.1.now)
 
 -- how many digits follow the letter of a UCHAR
 abbrev pub digit_count : ℕ → Option ℕ

@@ -1,12 +1,12 @@
 //! The characters of a text, one by one.
-ghost use Rattle.std.specs.Prelude.{◌≡◌, ◌∷◌, ◌<◌, [], drop, length, IsUtf8, MatchOption};
+ghost use Rattle.std.specs.Prelude.{◌≡◌};
 ghost use Rattle.std.specs.Str.{chars};
 ghost use Rattle.query_grammar.specs.Texts.{trimmed};
+ghost use Rattle.query_text.specs.Reads.{ReadsFirst};
 
 /// The first character, and what follows it.
 pub(crate) fn first(text: &str) -> Option<(char, &str)>
-    ensures { MatchOption result (chars text.now ≡ [])
-        (λ r. (chars text.now ≡ r.0 ∷ chars r.1.now) × (length r.1.now < length text.now) × IsUtf8 r.1.now) }
+    ensures { ReadsFirst text.now result }
 {
     let mut ahead = text.chars();
     let c = ahead.next()?;

@@ -27,3 +27,7 @@ pub record Takes (left_before left_now : Option (List ℕ)) (s t : State) : Type
   pub q : List ℕ
   pub read : left_before ≡ prepend_known q left_now
   pub still : (max : ℕ) (taken : List ℕ) (told : List Line) → IsOpen max s taken told → IsOpen max t (taken ++ q) told
+
+-- of what was taken, these lines more were told
+abbrev pub TellsMore : State → State → List Line → Type 0
+TellsMore s t more = (max : ℕ) (taken : List ℕ) (told : List Line) → IsOpen max s taken told → IsOpen max t taken (told ++ more)

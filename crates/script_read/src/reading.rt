@@ -2,8 +2,8 @@
 ghost use Rattle.std.specs.Prelude.{◌≡◌, Some};
 ghost use Rattle.std.specs.Option.{option_map};
 ghost use Rattle.script_model.specs.Commands as spec;
-ghost use Rattle.script_model.specs.Commands.{Change, File, Generate, Whole, behind_word, form_behind, form_of, generate_form, load_form, word_of};
-ghost use Rattle.script_read.specs.Forms.{form_meant};
+ghost use Rattle.script_model.specs.Commands.{Change, Generate, Whole, behind_word, form_behind, form_of, generate_form, load_form, word_of};
+ghost use Rattle.script_read.specs.Forms.{form_meant, loads};
 
 use crate::blanks::{split_word, trim};
 use crate::form::Command;
@@ -34,7 +34,7 @@ const MOST_GENERATED: u64 = 500_000_000;
 
 // The scope, empty where there is none, and the name behind the first word of a load.
 fn scope_and_name(text: &[u8]) -> Option<(&str, &str)>
-    ensures { (change : Change) → option_map (λ found. Whole (File change found.0.now found.1.now)) result ≡ load_form change text.now }
+    ensures { (change : Change) → loads change result ≡ load_form change text.now }
 {
     let (word, rest) = split_word(text);
     if word != SCOPE {

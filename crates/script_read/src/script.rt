@@ -48,7 +48,7 @@ impl Model for Script {
 }
 
 impl Script {
-    ghost use Rattle.script_read.specs.ScriptCalls.{NextLine, Takes};
+    ghost use Rattle.script_read.specs.ScriptCalls.{NextLine, Takes, TellsMore};
 
     /// A script of at most `max` bytes. Takes all buffers of reading.
     pub fn new(alloc: Global, max: u64) -> Result<Script, Memory>
@@ -67,7 +67,7 @@ impl Script {
 
     // Cuts the bytes ahead up to the next line end.
     fn cut(&mut self) -> Option<Cut>
-        ensures still { (max : ℕ) (taken : List ℕ) (ls : List Line) → IsOpen max self.old taken ls → IsOpen max self.new taken (ls ++ told result self.new.cutter) }
+        ensures still { TellsMore self.old self.new (told result self.new.cutter) }
         ensures all { result ≡ None → self.new.ahead ≡ [] }
         ensures none_left { whole_to_come self.new.cutter [] ≡ [] }
         ensures fewer { IfSome result (λ _. to_go self.new < to_go self.old) }

@@ -1,4 +1,4 @@
-use Rattle.std.proofs.Common.{rules, arith, ◌≡◌, ◌∙◌, ◌<◌, length, List, ℕ, Bor}
+use Rattle.std.proofs.Common.{rules, arith, ◌∙◌, List, ℕ, Bor}
 use Rattle.std.proofs.lemmas.Result.{err_from_is_err_and}
 use Rattle.tn_io.proofs.KnownLemmas.{begins_self, begins_trans}
 use Rattle.answer_text.proofs.PutLemmas.{put_more, put_cut}

@@ -1,4 +1,3 @@
-use Rattle.std.proofs.Common.{sym}
 use Rattle.tn_io.proofs.PutLemmas.{puts_same}
 use Rattle.answer_text.proofs.RowLemmas.{first_name, later_name}
 use Rattle.answer_text.proofs.row.put_name.Goals as goal

@@ -1,7 +1,6 @@
-use Rattle.std.proofs.Common.{rules, arith, ◌≡◌, ◌∙◌, ◌++◌, ◌∷◌, [], List, ℕ, ◌==◌, ap, sym, subst, append-nil}
-use Rattle.std.specs.Prelude.{Some, codes, map, slice_get}
+use Rattle.std.proofs.Common.{rules, ◌∙◌, ◌++◌, ◌==◌, ap, subst}
+use Rattle.std.specs.Prelude.{codes, map}
 use Rattle.std.proofs.lemmas.Result.{err_from_is_err_and}
-use Rattle.std.proofs.lemmas.Option.{slice_get-map}
 use Rattle.std.specs.Io.KnownBytes.{append_known}
 use Rattle.tn_io.specs.Known.{Begins}
 use Rattle.tn_io.specs.OutText.{all_put}

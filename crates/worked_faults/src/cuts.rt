@@ -2,13 +2,13 @@
 ghost use Rattle.std.specs.Prelude.{◌<◌};
 ghost use Rattle.graph_store.specs.State.{IsSettled};
 
-use crate::harness::{Calls, WHOLE, run_on};
 use crate::tables::{CUTS, STEPS, script_of_steps};
 use graph_store::Store;
 use std::alloc::{AllocError, Global};
 use std::process::Abort;
 use std::test::Fail;
 use trie_depth::{ConstMix, Mix, SplitMix};
+use worked_runs::{Calls, WHOLE, run_on};
 
 // The row for a script of so many bytes.
 fn row_of(cut: usize) -> (usize, &'static str) {

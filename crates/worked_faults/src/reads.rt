@@ -2,7 +2,6 @@
 ghost use Rattle.std.specs.Prelude.{◌<◌};
 ghost use Rattle.graph_store.specs.State.{IsSettled};
 
-use crate::harness::{Calls, WHOLE, run_on, told};
 use crate::tables::{closed_within, script_of_steps};
 use graph_store::Store;
 use std::alloc::{AllocError, Global};
@@ -10,6 +9,7 @@ use std::process::Abort;
 use std::test::Fail;
 use tentris_core::Status;
 use trie_depth::{ConstMix, Mix, SplitMix};
+use worked_runs::{Calls, WHOLE, run_on, told};
 
 // The script up to a read that fails, once so many of its bytes were taken.
 fn cut_off<M: Mix>(

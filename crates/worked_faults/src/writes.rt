@@ -1,7 +1,6 @@
 //! A write of the answers fails: each of them in turn.
 ghost use Rattle.graph_store.specs.State.{IsSettled};
 
-use crate::harness::{Calls, WHOLE, run_on, shape_of, told};
 use crate::tables::{STEPS, closed_within, script_of_steps};
 use graph_store::Store;
 use std::alloc::{AllocError, Global};
@@ -9,6 +8,7 @@ use std::process::Abort;
 use std::test::Fail;
 use tentris_core::Status;
 use trie_depth::{ConstMix, Mix, SplitMix};
+use worked_runs::{Calls, WHOLE, run_on, shape_of, told};
 
 const PIECE: usize = 5;
 

@@ -1,14 +1,8 @@
-//! Queries tried from their tokens to their rows, and the texts of words and answers. This crate has tests alone.
+//! The tokens of queries, queries and plans, and the texts of words and answers. This crate has tests alone.
 #![tactic(auto)]
 
 #[cfg(test)]
 mod answers;
-#[cfg(test)]
-mod common_keys;
-#[cfg(test)]
-mod distinct_rows;
-#[cfg(test)]
-mod listed_rows;
 #[cfg(test)]
 mod plans;
 #[cfg(test)]

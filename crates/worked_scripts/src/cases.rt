@@ -121,7 +121,7 @@ fn scripts_have_their_answers(rt: HostRuntime) -> Result<(), Fail> {
     ];
     for (name, script, want, status, triples) in cases {
         for piece in 1..=64usize {
-            let got = run_in_pieces(rt.alloc(), script.as_bytes(), piece, 0, 0)?;
+            let got = run_in_pieces(rt.alloc(), script.as_bytes(), piece)?;
             assert_eq!(rt;
                 got.written.as_slice(),
                 want.as_bytes(),
@@ -150,11 +150,11 @@ fn a_dump_is_an_insert(rt: HostRuntime) -> Result<(), Fail> {
     let alloc = rt.alloc();
     let script =
         b"INSERT\n_:b <x:p> \"q\\\"\\\\ \\r\\n\" .\n<x:a> <x:p> \"t\\t\"@en-GB .\n<x:a> <x:p> \"1\"^^<x:i> .\nGO\nDUMP\n";
-    let first = run_in_pieces(alloc, script.as_slice(), 64, 0, 0)?;
+    let first = run_in_pieces(alloc, script.as_slice(), 64)?;
     let mut again = b"INSERT\n".to_vec(alloc)?;
     again.extend_from_slice(lines_within(first.written.as_slice()))?;
     again.extend_from_slice(b"GO\nDUMP\n")?;
-    let second = run_in_pieces(alloc, again.as_slice(), 64, 0, 0)?;
+    let second = run_in_pieces(alloc, again.as_slice(), 64)?;
     assert_eq!(rt; first.triples, 3);
     assert_eq!(rt; second.written.as_slice(), first.written.as_slice());
     Ok(())
@@ -250,7 +250,7 @@ fn queries_have_their_answers(rt: HostRuntime) -> Result<(), Fail> {
         script.extend_from_slice(query.as_bytes())?;
         script.extend_from_slice(b"\nGO\n")?;
         for piece in [1usize, 7, 8192] {
-            let got = run_in_pieces(alloc, script.as_slice(), piece, 0, 0)?;
+            let got = run_in_pieces(alloc, script.as_slice(), piece)?;
             assert!(rt;
                 got.written.as_slice().ends_with(want.as_bytes()),
                 "{name}, in pieces of {piece}"
@@ -267,10 +267,10 @@ fn long_queries(rt: HostRuntime) -> Result<(), Fail> {
         let mut script = b"QUERY\nSELECT ?s { ?s ?p ?o }\n".to_vec(alloc)?;
         script.resize(6 + 1_048_576 - 1 + more, b' ')?;
         script.extend_from_slice(b"\nGO\n")?;
-        let got = run_in_pieces(alloc, script.as_slice(), 8192, 0, 0)?;
+        let got = run_in_pieces(alloc, script.as_slice(), 8192)?;
         assert_eq!(rt; got.written.as_slice(), want.as_bytes(), "{more} more");
     }
-    let unended = run_in_pieces(alloc, b"QUERY\nSELECT * { }\n".as_slice(), 8192, 0, 0)?;
+    let unended = run_in_pieces(alloc, b"QUERY\nSELECT * { }\n".as_slice(), 8192)?;
     assert_eq!(rt;
         unended.written.as_slice(),
         b"refused 10 unended\n".as_slice()
@@ -282,7 +282,7 @@ fn long_queries(rt: HostRuntime) -> Result<(), Fail> {
 #[test]
 fn a_line_that_is_no_text_is_refused(rt: HostRuntime) -> Result<(), Fail> {
     let script = b"INSERT\n<x:a> <x:p> \"\xff\" .\nGO\n# \xff\n";
-    let got = run_in_pieces(rt.alloc(), script.as_slice(), 7, 0, 0)?;
+    let got = run_in_pieces(rt.alloc(), script.as_slice(), 7)?;
     assert_eq!(rt; got.written.as_slice(), b"refused 3 line 1\n".as_slice());
     assert_eq!(rt; got.status, Status::SomeRefused);
     Ok(())
@@ -295,13 +295,13 @@ fn long_lines(rt: HostRuntime) -> Result<(), Fail> {
         let mut script = b"INSERT\n<x:a> <x:p> \"".to_vec(alloc)?;
         script.resize(7 + 1_048_576 - 3 + more, b'a')?;
         script.extend_from_slice(b"\" .\nGO\n")?;
-        let got = run_in_pieces(alloc, script.as_slice(), 8192, 0, 0)?;
+        let got = run_in_pieces(alloc, script.as_slice(), 8192)?;
         assert_eq!(rt; got.written.as_slice(), want.as_bytes(), "{more} more");
     }
     let mut script = Vec::new(alloc);
     script.resize(1_048_577, b' ')?;
     script.extend_from_slice(b"\nINSERT\nGO\n")?;
-    let got = run_in_pieces(alloc, script.as_slice(), 8192, 0, 0)?;
+    let got = run_in_pieces(alloc, script.as_slice(), 8192)?;
     assert_eq!(rt;
         got.written.as_slice(),
         b"refused 1 command\nok new 0 now 0\n".as_slice()

@@ -4,18 +4,10 @@
 #[cfg(test)]
 mod cases;
 #[cfg(test)]
-mod faults;
-#[cfg(test)]
-mod files;
-#[cfg(test)]
 mod harness;
-#[cfg(test)]
-mod large;
 #[cfg(test)]
 mod queries;
 #[cfg(test)]
 mod shapes;
-#[cfg(test)]
-mod watching;
 #[cfg(test)]
 mod words;

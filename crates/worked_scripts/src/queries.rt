@@ -253,3 +253,22 @@ fn the_longest_query(rt: HostRuntime) -> Result<(), Fail> {
     }
     Ok(())
 }
+
+const FIRST: &str =
+    "GENERATE 200000 7\nQUERY\nSELECT * { ?a1 ?b1 ?c1 . ?a2 ?b2 ?c2 . ?a3 ?b3 ?c3 . ?a4 ?b4 ?c4 . ?a5 ?b5 ?c5 . \
+    ?a6 ?b6 ?c6 . ?a7 ?b7 ?c7 . ?a8 ?b8 ?c8 . ?a9 ?b9 ?c9 . ?a ?b ?c } LIMIT 1\nGO\n";
+
+const HEADER: &str =
+    "ok new 187501 now 187501\n?a1\t?b1\t?c1\t?a2\t?b2\t?c2\t?a3\t?b3\t?c3\t?a4\t?b4\t?c4\t?a5\t?b5\t?c5\t\
+    ?a6\t?b6\t?c6\t?a7\t?b7\t?c7\t?a8\t?b8\t?c8\t?a9\t?b9\t?c9\t?a\t?b\t?c\n<urn:n:";
+
+#[test]
+fn the_first_of_many_rows(rt: HostRuntime) -> Result<(), Fail> {
+    let got = run_with::<SplitMix>(rt.alloc(), FIRST.as_bytes(), 4096, 0, 0, &[])?;
+    assert_eq!(rt; got.status, Status::Done);
+    assert!(rt; got.written.starts_with(HEADER.as_bytes()));
+    assert!(rt; got.written.ends_with(b">\nok rows 1\n"));
+    let lines = got.written.iter().filter(|b| **b == b'\n').count();
+    assert_eq!(rt; lines, 4);
+    Ok(())
+}

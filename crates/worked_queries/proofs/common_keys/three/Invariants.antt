@@ -1,4 +1,0 @@
-use Rattle.worked_queries.proofs.common_keys.three.Given as goal
-
-abbrev pub ghosts-of_three : goal.ghosts-of_three
-ghosts-of_three a = record { name = a.blank.name; parts = a.blank.parts }

@@ -1,6 +1,0 @@
-use Rattle.std.proofs.Common.{◌≡◌, map, take}
-use Rattle.worked_queries.specs.Tried.{start_of}
-use Rattle.worked_queries.proofs.listed_rows.starts_of.Given as goal
-
-abbrev pub invariant-loop-s : goal.invariant-loop-s
-invariant-loop-s g l = l.starts.items ≡ map (start_of l.op) (take l.s-index l.labels)

@@ -8,7 +8,8 @@ ghost use Rattle.trie_node.specs.Sets.{edge_set};
 ghost use Rattle.trie_context.specs.Rows.{row_of, set_of, LeadsToRow};
 ghost use Rattle.tuple_image.specs.TupleImages.{IsOver};
 ghost use Rattle.graph_view.specs.Read.{has_id};
-ghost use Rattle.graph_lines.specs.Walks.{AddsTexts, AddsTuples, behind, key_set, member_behind};
+ghost use Rattle.graph_lines.specs.Walks.{Adds, AddsTuples, behind, edge_keys, key_set, pairs_of, tuples_at};
+ghost use Rattle.graph_lines.specs.declared.style.Style.TheVariants.{Member};
 
 use crate::style::{Style, with_last, with_word};
 use edge_map::{Edge, EdgeMap};
@@ -60,8 +61,7 @@ fn add_edge(
 ) -> Result<(), Memory>
     requires there { LeadsToRow all.tables.now 1 edge }
     requires known { IsOver (has_id all.dict.now) (edge_set (set_of all.tables.now 1) edge) }
-    ensures { let keys = edge_set (set_of all.entry.tables.now 1) edge in
-        OnOk result (AddsTuples style all.entry.dict.now before.now keys texts.old.items texts.new.items) }
+    ensures { OnOk result (Adds style all.entry before.now (edge_keys all.entry edge) texts.old.items texts.new.items) }
 {
     match edge {
         Edge::Key(key) => {
@@ -83,8 +83,7 @@ fn add_pairs(
 ) -> Result<(), Memory>
     requires there { (k : ℕ) (e : Edge) → map.get pairs.now k ≡ Some e → LeadsToRow all.tables.now 1 e }
     requires known { IsOver (has_id all.dict.now) (union_over pairs.now (edge_set (set_of all.tables.now 1))) }
-    ensures { let tuples = union_over pairs.now (edge_set (set_of all.entry.tables.now 1)) in
-        OnOk result (AddsTuples style all.entry.dict.now before.now tuples texts.old.items texts.new.items) }
+    ensures { OnOk result (Adds style all.entry before.now (pairs_of all.entry pairs.now) texts.old.items texts.new.items) }
 {
     let mut walk = pairs.walk();
     while let Some((key, edge)) = walk.next() {
@@ -121,8 +120,7 @@ pub(crate) fn add_row_pairs(
 ) -> Result<(), Memory>
     requires there { IsSome (row_of all.tables.now 2 row) }
     requires known { IsOver (has_id all.dict.now) (set_of all.tables.now 2 row) }
-    ensures { let pairs = set_of all.entry.tables.now 2 row in
-        OnOk result (AddsTuples style all.entry.dict.now before.now pairs texts.old.items texts.new.items) }
+    ensures { OnOk result (Adds style all.entry before.now (tuples_at all.entry 2 row) texts.old.items texts.new.items) }
 {
     match all.tables.two.node(row) {
         Node::Single(pair) => {
@@ -145,8 +143,7 @@ pub(crate) fn add_members(
     requires high { depth ≤ 2 }
     requires there { IsSome (row_of all.tables.now depth row) }
     requires known { IsOver (has_id all.dict.now) (set_of all.tables.now depth row) }
-    ensures { let tuples = set_of all.entry.tables.now depth row in
-        OnOk result (AddsTexts (member_behind all.entry.dict.now []) tuples members.old.items members.new.items) }
+    ensures { OnOk result (Adds Member all.entry [] (tuples_at all.entry depth row) members.old.items members.new.items) }
 {
     let before = Text::new(alloc);
     if depth == 1 {

@@ -1,12 +1,11 @@
 //! The rows of the tables as lines: how many slices each is, and its members.
-ghost use Rattle.std.specs.Prelude.{◌≡◌, ℕ, ◌<◌, ◌≤◌, ◌^◌, ◌++◌, codes, decimal, None, IsSome, IsNone, IfSome, IfOk, OnOk};
-ghost use Rattle.rdf_model.specs.Sorting.{in_order};
+ghost use Rattle.std.specs.Prelude.{◌≡◌, ℕ, ◌<◌, ◌≤◌, ◌^◌, ◌++◌, None, IsSome, IsNone, IfSome, IfOk, OnOk};
 ghost use Rattle.graph_shape.specs.GraphShapes.{depth_name, tabbed, row_line};
 ghost use Rattle.trie_context.specs.Rows.{row_of, set_of};
 ghost use Rattle.trie_context.specs.Holds.{count_of};
 ghost use Rattle.tuple_image.specs.TupleImages.{IsOver};
 ghost use Rattle.graph_view.specs.Read.{has_id};
-ghost use Rattle.graph_lines.specs.Walks.{AddsRows, AreRowsKnown, row_read};
+ghost use Rattle.graph_lines.specs.Walks.{AddsRows, AreRowsKnown, line_with, row_read};
 
 use crate::members::add_members;
 use graph_view::TablesView;
@@ -64,7 +63,7 @@ fn name_of(depth: usize) -> &'static str
 
 /// The line of a row of this depth and count, whose members have these texts.
 fn line_of(alloc: Global, depth: usize, count: u128, members: Vec<Text>) -> Result<Text, Memory>
-    ensures { IfOk result (λ line. line ≡ depth_name depth ++ codes "\t" ++ decimal count ++ tabbed (in_order members.items)) }
+    ensures { IfOk result (λ line. line ≡ line_with depth count members.items) }
 {
     let mut members = members;
     members.sort_unstable();

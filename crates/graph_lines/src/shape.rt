@@ -1,10 +1,9 @@
 //! The shape of a graph as lines.
-ghost use Rattle.std.specs.Prelude.{◌≡◌, ℕ, IfOk};
+ghost use Rattle.std.specs.Prelude.{ℕ, IfOk};
 ghost use Rattle.hypertrie_model.specs.IdSets.{IdSet};
 ghost use Rattle.trie_context.specs.Shape.{HasShape};
-ghost use Rattle.graph_shape.specs.GraphShapes.{shape_lines as lines_of_shape};
-ghost use Rattle.graph_image.specs.Images.{graph_of, AreKnown};
-ghost use Rattle.graph_lines.specs.Walks.{AreRowsKnown, AreRowTexts};
+ghost use Rattle.graph_image.specs.Images.{AreKnown};
+ghost use Rattle.graph_lines.specs.Walks.{AreRowsKnown, AreRowTexts, AreShapeLines};
 
 use crate::row_lines::add_row_lines;
 use crate::sorted::sorted_lines;
@@ -28,9 +27,7 @@ fn row_texts(alloc: Global, all: TablesView<'_>) -> Result<Vec<Text>, Memory>
 /// pairs and of keys. There is none for a graph of fewer than two triples.
 pub fn shape_lines(alloc: Global, all: TablesView<'_>) -> Result<Lines, Memory>
     requires shape { (H : IdSet) × HasShape all.tables.now H × AreKnown all.dict.now H }
-    ensures { let t = all.entry.tables.now in
-        let terms = all.entry.dict.now in
-        IfOk result (λ lines. (H : IdSet) → HasShape t H → AreKnown terms H → lines ≡ lines_of_shape (graph_of terms H)) }
+    ensures { IfOk result (λ lines. AreShapeLines all.entry lines) }
 {
     sorted_lines(alloc, row_texts(alloc, all)?)
 }

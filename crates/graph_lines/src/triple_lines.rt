@@ -8,7 +8,8 @@ ghost use Rattle.trie_node.specs.Sets.{edge_set};
 ghost use Rattle.trie_context.specs.Rows.{set_of, LeadsToRow};
 ghost use Rattle.graph_image.specs.Images.{AreKnown};
 ghost use Rattle.graph_view.specs.Views.{triples_in};
-ghost use Rattle.graph_lines.specs.Walks.{AddsTexts, line_behind};
+ghost use Rattle.graph_lines.specs.Walks.{Adds, line_behind, triples_of};
+ghost use Rattle.graph_lines.specs.declared.style.Style.TheVariants.{Line};
 
 use crate::members::add_row_pairs;
 use crate::style::{Style, with_last, with_word};
@@ -41,8 +42,7 @@ fn add_triples(
 ) -> Result<(), Memory>
     requires there { (k : ℕ) (e : Edge) → map.get triples.now k ≡ Some e → LeadsToRow all.tables.now 2 e }
     requires known { AreKnown all.dict.now (union_over triples.now (edge_set (set_of all.tables.now 2))) }
-    ensures { let tuples = union_over triples.now (edge_set (set_of all.entry.tables.now 2)) in
-        OnOk result (AddsTexts (line_behind all.entry.dict.now []) tuples lines.old.items lines.new.items) }
+    ensures { OnOk result (Adds Line all.entry [] (triples_of all.entry triples.now) lines.old.items lines.new.items) }
 {
     let start = Text::new(alloc);
     let mut walk = triples.walk();
@@ -62,8 +62,7 @@ pub(crate) fn add_lines(
     graph: GraphView<'_>,
     lines: &mut Vec<Text>,
 ) -> Result<(), Memory>
-    ensures { let terms = graph.entry.all.dict.now in
-        OnOk result (AddsTexts (line_behind terms []) (triples_in graph.entry) lines.old.items lines.new.items) }
+    ensures { OnOk result (Adds Line graph.entry.all [] (triples_in graph.entry) lines.old.items lines.new.items) }
 {
     match graph.root {
         Root::Empty => Ok(()),

@@ -7,7 +7,7 @@ use Rattle.rdf_model.specs.Graph.{term_cmp}
 use Rattle.term_dict.specs.Dict.{Terms, IsNew}
 use Rattle.trie_depth.specs.declared.id.Id.{Id}
 use Rattle.trie_depth.specs.declared.id.Trip.{Trip}
-use Rattle.graph_image.specs.Images.{is_among, without}
+use Rattle.graph_image.specs.Images.{HasExactly, is_among, without}
 use Rattle.graph_image.specs.DictLaws.{Extends}
 use Rattle.graph_store.specs.Staging.{numbers, AreDistinct}
 
@@ -30,6 +30,10 @@ HasNewTerm terms t = IsNew terms t.s ⊎ (IsNew terms t.p ⊎ IsNew terms t.o)
 -- these terms and those of the triple
 abbrev pub with_terms : set.FinSet term_cmp → Triple → set.FinSet term_cmp
 with_terms S t = set.insert (set.insert (set.insert S t.s) t.p) t.o
+
+-- a dictionary that had exactly some terms has exactly these and those of the triple
+abbrev pub AddsTerms : Terms → Terms → Triple → Type 0
+AddsTerms old new t = (S : set.FinSet term_cmp) → HasExactly old S → HasExactly new (with_terms S t)
 
 -- new terms came into a dictionary, under Ids that are noted behind the earlier ones
 pub record Grows (old : Terms) (noted : List Id) (new : Terms) (more : List Id) : Type 0 where

@@ -1,5 +1,5 @@
 -- Triples that are staged, with the terms that came with them, and triples that are marked.
-use Rattle.std.specs.Prelude.{◌≡◌, ◌⊎◌, ℕ, ◌+◌, ◌<◌, ◌≤◌, not, true, false, List, [], ◌∷◌, IsSome, Some, refl, if◌then◌else◌}
+use Rattle.std.specs.Prelude.{◌≡◌, ◌⊎◌, ℕ, ◌+◌, ◌<◌, ◌≤◌, ◌||◌, not, Bool, true, false, List, [], ◌∷◌, IsSome, Some, refl, if◌then◌else◌}
 use Rattle.std.specs.Prelude.{map as map_list}
 use Rattle.std.specs.Coded.{Coded, code_by, coded×, coded_ℕ, coded_list}
 use Rattle.std.specs.FinMap as map
@@ -9,7 +9,7 @@ use Rattle.hypertrie_model.specs.Changes.{IsChange}
 use Rattle.rdf_model.specs.Terms.{Term, Triple}
 use Rattle.rdf_model.specs.Graph.{Graph}
 use Rattle.trie_depth.specs.declared.id.Id.{Id}
-use Rattle.graph_image.specs.Images.{graph_of, terms_of, AreKnown, HasExactly, is_among, without}
+use Rattle.graph_image.specs.Images.{graph_of, terms_of, AreKnown, HasExactly, IsUsed, is_among, without}
 use Rattle.ntriples_model.specs.Proper.{AreProper}
 use Rattle.graph_store.specs.State.{State, triples_of, graph, most_triples}
 
@@ -35,10 +35,26 @@ staged_graph s b = graph_of s.dict b.triples
 abbrev pub with_new : Graph → Graph → Triple → Graph
 with_new G staged t = if set.contains G t then staged else set.insert staged t
 
+-- one triple more is staged, unless the graph has it
+abbrev pub StagesOne : State → Staging → State → Staging → Triple → Type 0
+StagesOne s b t c triple = staged_graph t c ≡ with_new (graph s) (staged_graph s b) triple
+
+-- whether the graph or the staged triples have the triple
+abbrev pub is_held : State → Staging → Triple → Bool
+is_held s b triple = set.contains (graph s) triple || set.contains (staged_graph s b) triple
+
 -- no Id stands twice in the list
 abbrev pub AreDistinct : List ℕ → Type 0
 AreDistinct [] = Unit {0}
 AreDistinct (id ∷ ids) = (is_among ids id ≡ false) × AreDistinct ids
+
+-- each Id that a tuple of the set has is in the list
+abbrev pub HasUsed : List ℕ → IdSet → Type 0
+HasUsed ids H = (id : ℕ) → IsUsed H id → is_among ids id ≡ true
+
+-- each Id in the list is one that a tuple of the set has
+abbrev pub HasOnlyUsed : List ℕ → IdSet → Type 0
+HasOnlyUsed ids H = (id : ℕ) → is_among ids id ≡ true → IsUsed H id
 
 -- the staged triples are some that this store may put in
 pub record Fits (s : State) (b : Staging) : Type 0 where
@@ -75,3 +91,7 @@ with_marked G marked t = if set.contains G t then set.insert marked t else marke
 -- the marked triples as a graph
 abbrev pub marked_graph : State → IdSet → Graph
 marked_graph s marked = graph_of s.dict marked
+
+-- one triple more is marked, if the graph has it
+abbrev pub MarksOne : State → IdSet → IdSet → Triple → Type 0
+MarksOne s marked more triple = marked_graph s more ≡ with_marked (graph s) (marked_graph s marked) triple

@@ -4,8 +4,8 @@ ghost use Rattle.std.specs.FinSet as set;
 ghost use Rattle.hypertrie_model.specs.Sets.{has};
 ghost use Rattle.trie_depth.specs.Tuples.{id_tuple, trip_tuple};
 ghost use Rattle.trie_change.specs.Batches.{set_of_entries};
-ghost use Rattle.graph_image.specs.Images.{is_among, IsUsed};
-ghost use Rattle.graph_store.specs.Staging.{numbers, AreDistinct};
+ghost use Rattle.graph_image.specs.Images.{is_among};
+ghost use Rattle.graph_store.specs.Staging.{numbers, AreDistinct, HasUsed, HasOnlyUsed};
 
 use std::alloc::Global;
 use std::collections::BTreeSet;
@@ -60,8 +60,8 @@ impl Ids {
 
 /// The Ids that the triples have.
 pub(crate) fn ids_in(alloc: Global, batch: &[Trip]) -> Result<Vec<Id>, Memory>
-    ensures used { IfOk result (λ v. (id : ℕ) → IsUsed (set_of_entries trip_tuple batch.now) id → is_among (numbers v.items) id ≡ true) }
-    ensures only { IfOk result (λ v. (id : ℕ) → is_among (numbers v.items) id ≡ true → IsUsed (set_of_entries trip_tuple batch.now) id) }
+    ensures used { IfOk result (λ v. HasUsed (numbers v.items) (set_of_entries trip_tuple batch.now)) }
+    ensures only { IfOk result (λ v. HasOnlyUsed (numbers v.items) (set_of_entries trip_tuple batch.now)) }
     ensures once { IfOk result (λ v. AreDistinct (numbers v.items)) }
 {
     let mut ids = Ids::new(alloc);

@@ -1,10 +1,8 @@
 //! The rows that answer a query over the graph.
-ghost use Rattle.std.specs.Prelude.{◌≡◌, ◌<◌, List, None, IfOk};
+ghost use Rattle.std.specs.Prelude.{◌≡◌, ◌<◌, None, IfOk};
 ghost use Rattle.query_plan.specs.Labels.{IsLabelled};
 ghost use Rattle.query_plan.specs.Seen.{query_seen};
-ghost use Rattle.bag_model.specs.Listings.{MayGive};
-ghost use Rattle.solution_model.specs.Answers.{IsAnswerTo};
-ghost use Rattle.solution_model.specs.Rows.{Row, column_labels};
+ghost use Rattle.solution_model.specs.Rows.{column_labels};
 ghost use Rattle.graph_view.specs.Views.{graph_in};
 ghost use Rattle.graph_listing.specs.Wholes.{GivesAnswers};
 ghost use Rattle.graph_store.specs.State.{graph};
@@ -25,7 +23,7 @@ impl<M: Mix> Store<M> {
         requires { IsLabelled query.now }
         ensures columns { IfOk result (λ s. s.columns ≡ column_labels (query_seen query.now)) }
         ensures present { IfOk result (λ s. s.present ≡ None) }
-        ensures answers { IfOk result (λ s. (rows : List Row) → MayGive s rows → IsAnswerTo (query_seen query.now) (graph self.now) rows) }
+        ensures answers { IfOk result (λ s. GivesAnswers query.now (graph self.now) s) }
     {
         made::<Brand>(alloc, self.view(), query, Blank::new(1))
     }

@@ -7,7 +7,7 @@ ghost use Rattle.trie_context.specs.Roots.{root_set};
 ghost use Rattle.trie_context.specs.RootShape.{OnlyRootHeld};
 ghost use Rattle.ntriples_model.specs.Proper.{IsProperTriple};
 ghost use Rattle.graph_store.specs.State.{graph, most_triples, IsSettled};
-ghost use Rattle.graph_store.specs.Staging.{nothing_staged, staged_graph, with_new, Fits, before, IsFull};
+ghost use Rattle.graph_store.specs.Staging.{nothing_staged, staged_graph, is_held, StagesOne, Fits, before, IsFull};
 ghost use Rattle.graph_store.specs.declared.staged.StageFault.TheVariants as fault;
 
 use crate::look_up::has;
@@ -68,7 +68,7 @@ impl<M: Mix> Store<M> {
         ensures graph { graph self.new ≡ graph self.old }
         ensures before { before self.new staged.new ≡ before self.old staged.old }
         ensures fits { Fits self.new staged.new }
-        ensures staged { OnOk result (staged_graph self.new staged.new ≡ with_new (graph self.old) (staged_graph self.old staged.old) (lent_triple triple.entry)) }
+        ensures staged { OnOk result (StagesOne self.old staged.old self.new staged.new (lent_triple triple.entry)) }
         ensures full { IsErrOf result fault.Full ↔ IsFull self.old staged.old (lent_triple triple.entry) }
         ensures store { OnErr result (self.new ≡ self.old) }
         ensures refused { OnErr result (staged.new ≡ staged.old) }
@@ -94,15 +94,14 @@ impl<M: Mix> Store<M> {
         requires { Fits self.now staged.now }
         ensures { result ≡ set.len (staged_graph self.now staged.now) }
     {
-        // This call tells the proof that the dictionary is one to one.
-        self.dict.len();
+        self.dict.is_one_to_one();
         staged.trips.len() as u64
     }
 
     /// Whether the graph or the staged triples have the triple.
     fn is_there(&self, staged: &Staged, triple: TripleRef<'_>) -> bool
         requires { Fits self.now staged.now }
-        ensures { result ≡ (set.contains (graph self.now) (lent_triple triple.entry) || set.contains (staged_graph self.now staged.now) (lent_triple triple.entry)) }
+        ensures { result ≡ is_held self.now staged.now (lent_triple triple.entry) }
     {
         let Some(trip) = ids_of(&self.dict, triple) else {
             return false;
@@ -119,12 +118,11 @@ impl<M: Mix> Store<M> {
         ensures graph { graph self.new ≡ graph self.old }
         ensures before { before self.new staged.new ≡ before self.old staged.old }
         ensures fits { Fits self.new staged.new }
-        ensures staged { OnOk result (staged_graph self.new staged.new ≡ with_new (graph self.old) (staged_graph self.old staged.old) (lent_triple triple.entry)) }
+        ensures staged { OnOk result (StagesOne self.old staged.old self.new staged.new (lent_triple triple.entry)) }
         ensures store { OnErr result (self.new ≡ self.old) }
         ensures refused { OnErr result (staged.new ≡ staged.old) }
     {
-        // This call tells the proof that the dictionary is one to one.
-        self.dict.len();
+        self.dict.is_one_to_one();
         let keep = staged.added.len();
         let trip = intern_triple(&mut self.dict, &mut staged.added, triple)?;
         if has(GraphView::of(&self.ctx, &self.root, &self.dict), trip) {
@@ -154,8 +152,7 @@ impl<M: Mix> Store<M> {
         ensures before { OnErr result (self.new ≡ before self.old staged) }
         ensures ticks { interns.new ≤ interns.old + (9 * set.len (staged_graph self.old staged) + 10) }
     {
-        // This call tells the proof that the dictionary is one to one.
-        self.dict.len();
+        self.dict.is_one_to_one();
         let Staged { trips, added } = staged;
         match put_in(
             alloc,

@@ -12,7 +12,7 @@ ghost use Rattle.trie_view.specs.Subs.{sub_depth, sub_set};
 ghost use Rattle.graph_image.specs.Images.{is_among, IsUsed};
 ghost use Rattle.graph_view.specs.Read.{set_in};
 ghost use Rattle.graph_store.specs.State.{graph, most_triples, IsSettled};
-ghost use Rattle.graph_store.specs.Staging.{marked_graph, with_marked, AreMarked, numbers, AreDistinct};
+ghost use Rattle.graph_store.specs.Staging.{marked_graph, MarksOne, AreMarked, numbers, AreDistinct};
 ghost use Rattle.graph_store.specs.Forgotten.{Forgets};
 
 use crate::ids::ids_in;
@@ -62,7 +62,7 @@ impl Taken {
 impl<M: Mix> Store<M> {
     /// Marks a triple, if the graph has it.
     pub fn mark(&self, taken: &mut Taken, triple: TripleRef<'_>) -> Result<(), Memory>
-        ensures marked { OnOk result (marked_graph self.now taken.new ≡ with_marked (graph self.now) (marked_graph self.now taken.old) (lent_triple triple.entry)) }
+        ensures marked { OnOk result (MarksOne self.now taken.old taken.new (lent_triple triple.entry)) }
         ensures there { AreMarked self.now taken.old → AreMarked self.now taken.new }
         ensures refused { OnErr result (taken.new ≡ taken.old) }
     {
@@ -93,8 +93,7 @@ impl<M: Mix> Store<M> {
         ensures kept { OnErr result (self.new ≡ self.old) }
         ensures ticks { interns.new ≤ interns.old + (9 * set.len (marked_graph self.old taken) + 10) }
     {
-        // This call tells the proof that the dictionary is one to one.
-        self.dict.len();
+        self.dict.is_one_to_one();
         let Taken { trips } = taken;
         let batch = trips.listed(alloc)?;
         let ids = ids_in(alloc, &batch)?;

@@ -1,14 +1,12 @@
 //! Terms of triples that come into a dictionary, with a note of those that are new, and go again.
 ghost use Rattle.std.specs.Prelude.{◌≡◌, ◌⊎◌, ◌+◌, ◌<◌, ◌≤◌, ◌^◌, ℕ, true, take, drop, IsSome, IsNone, IfSome, IfOk, OnOk, OnErr, vec_len, length};
 ghost use Rattle.std.specs.FinMap as map;
-ghost use Rattle.std.specs.FinSet as set;
-ghost use Rattle.rdf_model.specs.Graph.{term_cmp};
 ghost use Rattle.rdf_term.specs.Seen.{lent_term};
 ghost use Rattle.rdf_term.specs.Seen.{lent_triple};
 ghost use Rattle.term_dict.specs.Dict.{IsNew};
-ghost use Rattle.graph_image.specs.Images.{HasExactly, is_among, without};
+ghost use Rattle.graph_image.specs.Images.{is_among, without};
 ghost use Rattle.graph_store.specs.Staging.{numbers, AreDistinct};
-ghost use Rattle.graph_store.specs.Noted.{Notes, Grows, HasIds, HasNewTerm, with_terms};
+ghost use Rattle.graph_store.specs.Noted.{Notes, Grows, HasIds, HasNewTerm, AddsTerms};
 
 use ntriples::TripleRef;
 use rdf_term::TermRef;
@@ -70,7 +68,7 @@ fn intern_noted(dict: &mut Dict, noted: &mut Vec<Id>, term: TermRef<'_>) -> Resu
 fn intern_each(dict: &mut Dict, noted: &mut Vec<Id>, triple: TripleRef<'_>) -> Result<Trip, Memory>
     requires room { map.len dict.old + 2 < 2 ^ 31 }
     ensures ids { IfOk result (λ trip. HasIds dict.new (lent_triple triple.entry) trip) }
-    ensures terms { OnOk result ((S : set.FinSet term_cmp) → HasExactly dict.old S → HasExactly dict.new (with_terms S (lent_triple triple.entry))) }
+    ensures terms { OnOk result (AddsTerms dict.old dict.new (lent_triple triple.entry)) }
     ensures grows { Grows dict.old noted.old.items dict.new noted.new.items }
 {
     let s = intern_noted(dict, noted, triple.s)?;
@@ -87,7 +85,7 @@ pub(crate) fn intern_triple(
 ) -> Result<Trip, Memory>
     requires room { map.len dict.old + 2 < 2 ^ 31 }
     ensures ids { IfOk result (λ trip. HasIds dict.new (lent_triple triple.entry) trip) }
-    ensures terms { OnOk result ((S : set.FinSet term_cmp) → HasExactly dict.old S → HasExactly dict.new (with_terms S (lent_triple triple.entry))) }
+    ensures terms { OnOk result (AddsTerms dict.old dict.new (lent_triple triple.entry)) }
     ensures grows { OnOk result (Grows dict.old noted.old.items dict.new noted.new.items) }
     ensures dict { OnErr result (dict.new ≡ dict.old) }
     ensures noted { OnErr result (noted.new.items ≡ noted.old.items) }

@@ -6,13 +6,14 @@ use Rattle.hypertrie_model.specs.IdSets.{IdSet}
 use Rattle.rdf_model.specs.Terms.{Text}
 use Rattle.rdf_model.specs.Graph.{Graph}
 use Rattle.ntriples_model.specs.Proper.{IsScope, IsProperTriple}
-use Rattle.rdf_term.specs.Seen.{lent_triples}
+use Rattle.rdf_term.specs.Seen.{lent_triple, lent_triples}
 use Rattle.rdf_term.specs.declared.term.TripleRef.{TripleRef}
 use Rattle.text_lines.specs.Lines.{Line}
 use Rattle.script_model.specs.Commands as script
 use Rattle.run_model.specs.Answers as answers
 use Rattle.run_model.specs.Answers.{is_refused}
 use Rattle.run_model.specs.Sayings.{Saying, triples_of, first_refusal, Changes}
+use Rattle.run_model.specs.Loads.{generated_sayings, saying_of}
 use Rattle.graph_store.specs.State.{State, graph, IsSettled}
 use Rattle.graph_store.specs.Staging.{Staging, staged_graph, Fits, before, AreMarked, marked_graph}
 use Rattle.answer_text.specs.declared.Refusal.{Refusal}
@@ -35,6 +36,10 @@ pub record MayBeScope (scope : Text) : Type 0 where
 abbrev pub lent_saying : Option (Option TripleRef) → Saying
 lent_saying None = None
 lent_saying (Some read) = Some (lent_triples read)
+
+-- what a line with the triple says
+abbrev pub triple_said : TripleRef → Saying
+triple_said triple = saying_of (lent_triple triple)
 
 -- a triple that is said is a proper one
 abbrev pub IsProperSaying : Saying → Type 0
@@ -128,3 +133,23 @@ abbrev pub HasOneMore : ℕ → Saying → State → Batch → State → Batch �
 HasOneMore number saying old batch now next =
     (s : State) (change : script.Change) (said : List Saying) → number ≡ length said + 1 → IsBatch s change said old batch
     → IsBatch s change (said ++ saying ∷ []) now next
+
+-- Its lines took the store that the batch was begun over to this one.
+abbrev pub CarriesOut : (ℕ → ℕ → ℕ → ℕ → ℕ) → State → Batch → State → answers.Answer → Type 0
+CarriesOut mixed now batch t a = (s : State) (change : script.Change) (said : List Saying) → IsSound mixed s → IsBatch s change said now batch → ChangesStore mixed s change said t a
+
+-- the staged triples were put in
+abbrev pub PutsIn : (ℕ → ℕ → ℕ → ℕ → ℕ) → State → Staging → State → answers.Answer → Type 0
+PutsIn mixed now staged t a = (s : State) (said : List Saying) → IsSound mixed s → AreStaged s said now staged → ChangesStore mixed s script.Inserts said t a
+
+-- the marked triples were taken out
+abbrev pub TakesOut : (ℕ → ℕ → ℕ → ℕ → ℕ) → State → IdSet → State → answers.Answer → Type 0
+TakesOut mixed s taken t a = (said : List Saying) → IsSound mixed s → AreToGo s said taken → ChangesStore mixed s script.Deletes said t a
+
+-- the store is the one that the batch was begun over
+abbrev pub GoesBack : State → Batch → State → Type 0
+GoesBack now batch t = (s : State) (change : script.Change) (said : List Saying) → IsBatch s change said now batch → t ≡ s
+
+-- the generated triples were put in, as lines that say them
+abbrev pub Generates : (ℕ → ℕ → ℕ → ℕ → ℕ) → ℕ → ℕ → State → State → answers.Answer → Type 0
+Generates mixed count salt s t a = IsSound mixed s → ChangesStore mixed s script.Inserts (generated_sayings count salt) t a

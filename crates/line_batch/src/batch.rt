@@ -1,17 +1,14 @@
 //! What lines say: triples that are staged or marked in the store, until the last of them has come.
-ghost use Rattle.std.specs.Prelude.{◌≡◌, ◌≤◌, ℕ, List, length, IfSome};
+ghost use Rattle.std.specs.Prelude.{◌≡◌, ◌≤◌, ℕ, length, IfSome};
 ghost use Rattle.ntriples_model.specs.Proper.{IsProperTriple};
 ghost use Rattle.rdf_term.specs.Seen.{lent_triple};
-ghost use Rattle.run_model.specs.Sayings as model;
 ghost use Rattle.run_model.specs.Sayings.{says};
-ghost use Rattle.run_model.specs.Loads.{saying_of};
 ghost use Rattle.script_model.specs.Commands as script;
-ghost use Rattle.graph_store.specs.State.{State, IsSettled};
+ghost use Rattle.graph_store.specs.State.{IsSettled};
 ghost use Rattle.graph_store.specs.Staging.{Fits, before, AreMarked};
-ghost use Rattle.line_batch.specs.Sound.{IsSound};
 ghost use Rattle.line_batch.specs.Seen.{answer_of};
-ghost use Rattle.line_batch.specs.Batches.{lent_line, MayBeScope, IsBatch, IsNone, IsReady, AreStaged, AreToGo, ChangesStore};
-ghost use Rattle.line_batch.specs.Batches.{StagesOneMore, MarksOneMore, HasOneMore, lent_saying, IsProperSaying};
+ghost use Rattle.line_batch.specs.Batches.{lent_line, MayBeScope, IsNone, IsReady, CarriesOut, GoesBack, PutsIn, TakesOut};
+ghost use Rattle.line_batch.specs.Batches.{StagesOneMore, MarksOneMore, HasOneMore, lent_saying, triple_said, IsProperSaying};
 ghost use Rattle.line_batch.specs.declared.batch.Batch.TheVariants.{Inserts, Deletes};
 
 use crate::answer::Answer;
@@ -48,8 +45,7 @@ fn stage_triple<M: Mix>(
     requires proper { IsProperTriple (lent_triple triple) }
     ensures fits { Fits store.new staged.new }
     ensures before { before store.new staged.new ≡ before store.old staged.old }
-    ensures triple { StagesOneMore number (saying_of (lent_triple triple.entry))
-        store.old staged.old store.new staged.new result }
+    ensures triple { StagesOneMore number (triple_said triple.entry) store.old staged.old store.new staged.new result }
 {
     match store.stage(staged, triple) {
         Ok(()) => None,
@@ -93,8 +89,7 @@ fn mark_triple<M: Mix>(
     triple: TripleRef<'_>,
 ) -> Option<Refusal>
     ensures there { AreMarked store.now taken.old → AreMarked store.now taken.new }
-    ensures triple { (number : ℕ)
-        → MarksOneMore number (saying_of (lent_triple triple.entry)) store.now taken.old taken.new result }
+    ensures triple { (number : ℕ) → MarksOneMore number (triple_said triple.entry) store.now taken.old taken.new result }
 {
     match store.mark(taken, triple) {
         Ok(()) => None,
@@ -217,7 +212,7 @@ impl Batch {
         requires proper { IsProperTriple (lent_triple triple) }
         requires ready { IsReady store.old self }
         ensures ready { IsReady store.new result }
-        ensures more { HasOneMore number (saying_of (lent_triple triple.entry)) store.old self store.new result }
+        ensures more { HasOneMore number (triple_said triple.entry) store.old self store.new result }
     {
         self.with_saying(store, Some(Some(triple)), number)
     }
@@ -244,8 +239,7 @@ impl Batch {
         counts: &mut Counts<W, V, U>,
     ) -> Answer
         requires ready { IsReady store.old self }
-        ensures { (s : State) (change : script.Change) (said : List model.Saying) → IsSound M.mixed s → IsBatch s change said store.old self
-            → ChangesStore M.mixed s change said store.new (answer_of result) }
+        ensures { CarriesOut M.mixed store.old self store.new (answer_of result) }
     {
         match self {
             Batch::Inserts(staged) => put_in(alloc, store, staged, counts),
@@ -257,7 +251,7 @@ impl Batch {
     /// Leaves the store as it was before the first line.
     pub fn abandon<M: Mix>(self, store: &mut Store<M>)
         requires ready { IsReady store.old self }
-        ensures { (s : State) (change : script.Change) (said : List model.Saying) → IsBatch s change said store.old self → store.new ≡ s }
+        ensures { GoesBack store.old self store.new }
     {
         match self {
             Batch::Inserts(staged) => store.abandon(staged),
@@ -274,8 +268,7 @@ fn put_in<M: Mix, W: Ledger, V: Ledger, U: Ledger>(
     counts: &mut Counts<W, V, U>,
 ) -> Answer
     requires fits { Fits store.old staged }
-    ensures { (s : State) (said : List model.Saying) → IsSound M.mixed s → AreStaged s said store.old staged
-        → ChangesStore M.mixed s script.Inserts said store.new (answer_of result) }
+    ensures { PutsIn M.mixed store.old staged store.new (answer_of result) }
 {
     let inserted = store.insert(alloc, staged, &mut counts.interns, &mut counts.retains);
     // This call tells the proof that the tables are the shape of the graph.
@@ -294,8 +287,7 @@ fn take_out<M: Mix, W: Ledger, V: Ledger, U: Ledger>(
     counts: &mut Counts<W, V, U>,
 ) -> Answer
     requires ready { IsReady store.old (Deletes taken) }
-    ensures { (said : List model.Saying) → IsSound M.mixed store.old → AreToGo store.old said taken
-        → ChangesStore M.mixed store.old script.Deletes said store.new (answer_of result) }
+    ensures { TakesOut M.mixed store.old taken store.new (answer_of result) }
 {
     let deleted = store.delete(alloc, taken, &mut counts.interns, &mut counts.retains);
     // This call tells the proof that the tables are the shape of the graph.

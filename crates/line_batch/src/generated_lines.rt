@@ -3,9 +3,8 @@ ghost use Rattle.std.specs.Prelude.{◌≡◌, ◌≤◌};
 ghost use Rattle.script_model.specs.Commands as script;
 ghost use Rattle.run_model.specs.Loads.{generated_sayings};
 ghost use Rattle.graph_store.specs.State.{IsSettled};
-ghost use Rattle.line_batch.specs.Sound.{IsSound};
 ghost use Rattle.line_batch.specs.Seen.{answer_of};
-ghost use Rattle.line_batch.specs.Batches.{IsBatch, IsReady, ChangesStore};
+ghost use Rattle.line_batch.specs.Batches.{IsBatch, IsReady, Generates};
 
 use crate::answer::Answer;
 use crate::batch::Batch;
@@ -52,8 +51,7 @@ pub fn generate<M: Mix, W: Ledger, V: Ledger, U: Ledger>(
 ) -> Answer
     requires most { count ≤ 500000000 }
     requires settled { IsSettled store.old }
-    ensures { IsSound M.mixed store.old
-        → ChangesStore M.mixed store.old script.Inserts (generated_sayings count salt) store.new (answer_of result) }
+    ensures { Generates M.mixed count salt store.old store.new (answer_of result) }
 {
     gathered(alloc, store, count, salt, scratch).carry_out(alloc, store, counts)
 }

@@ -1,5 +1,5 @@
 -- What is put of the rows that a listing may give.
-use Rattle.std.specs.Prelude.{◌≡◌, ℕ, true, List, length, ◌==◌, Result, OnErr, IfOk}
+use Rattle.std.specs.Prelude.{◌≡◌, ℕ, true, List, length, ◌==◌, Some, Result, OnErr, IfOk}
 use Rattle.std.specs.declared.option.Option.{Option}
 use Rattle.std.specs.List.{flat_map, list_all}
 use Rattle.std.specs.Io.KnownBytes.{append_known}
@@ -12,12 +12,15 @@ use Rattle.tn_io.specs.declared.out.Out.{Out}
 use Rattle.tn_io.specs.declared.outside.Failed.{Failed}
 use Rattle.tn_io.specs.Causes.{HasCause}
 use Rattle.tn_io.specs.Known.{Begins}
-use Rattle.tn_io.specs.OutText.{all_put}
-use Rattle.tn_io.specs.OutText.{Puts}
+use Rattle.tn_io.specs.OutText.{all_put, Puts}
 
 -- each row that a listing may give has a value or none for each column
 abbrev pub HasWidth : Listing Term → Type 0
 HasWidth s = (rows : List Row) → MayGive s rows → list_all (λ (row : Row). length row == length s.columns) rows ≡ true
+
+-- what holds of the present row, where it has so many fields
+abbrev pub OfPresent : Listing Term → ℕ → (Row → Type 0) → Type 0
+OfPresent s columns P = (row : Row) → s.present ≡ Some row → length row ≡ columns → P row
 
 -- Rows that the listing may give were put, each on its line, or a front of them and then a fault.
 pub record PutsRows {K : Type 0} (written : K → Option (List ℕ)) (faults : K → ℕ) (old new : Out K) (result : Result ℕ Failed) (s : Listing Term) : Type 0 where

@@ -1,11 +1,10 @@
 //! The rows of a listing, put one by one.
-ghost use Rattle.std.specs.Prelude.{◌≡◌, length, Some, IsSome};
+ghost use Rattle.std.specs.Prelude.{◌≡◌, length, IsSome};
 ghost use Rattle.query_plan.specs.Seen.{query_seen};
-ghost use Rattle.solution_model.specs.Rows.{Row};
 ghost use Rattle.solution_model.specs.Texts.{row_text};
 ghost use Rattle.run_model.specs.Answers.{row_line};
 ghost use Rattle.tn_io.specs.OutText.{Puts};
-ghost use Rattle.listing_text.specs.Rows.{HasWidth, PutsRows, PutsAnswer};
+ghost use Rattle.listing_text.specs.Rows.{HasWidth, OfPresent, PutsRows, PutsAnswer};
 
 use answer_text::{Reply, end_row, field, header, ok};
 use graph_listing::Listing;
@@ -23,7 +22,7 @@ fn put_fields<K: Sink>(
     requires given { IsSome listing.now.present }
     requires columns { columns ≡ length listing.now.columns }
     ensures same_sink { out.new.sink.ghost_name ≡ out.old.sink.ghost_name }
-    ensures put { (row : Row) → listing.now.present ≡ Some row → length row ≡ columns → Puts K.written K.faults out.old out.new result (row_text row) }
+    ensures put { OfPresent listing.now columns (λ row. Puts K.written K.faults out.old out.new result (row_text row)) }
 {
     for col in 0..columns {
         field(listing.value(col), col == 0, out)?;
@@ -40,7 +39,7 @@ fn put_row<K: Sink>(
     requires given { IsSome listing.now.present }
     requires columns { columns ≡ length listing.now.columns }
     ensures same_sink { out.new.sink.ghost_name ≡ out.old.sink.ghost_name }
-    ensures put { (row : Row) → listing.now.present ≡ Some row → length row ≡ columns → Puts K.written K.faults out.old out.new result (row_line row) }
+    ensures put { OfPresent listing.now columns (λ row. Puts K.written K.faults out.old out.new result (row_line row)) }
 {
     put_fields(listing, columns, out)?;
     end_row(out)

@@ -67,7 +67,7 @@ map-take f zero xs = refl
 map-take f (suc n) [] = refl
 map-take f (suc n) (x ∷ xs) = ap (λ ys. f x ∷ ys) (map-take f n xs)
 
-map-cut : {X Y : Type 0} (f : X → Y) (limit : Option ℕ) (offset : ℕ) (xs : List X) → map f (cut limit offset xs) ≡ cut limit offset (map f xs)
+pub map-cut : {X Y : Type 0} (f : X → Y) (limit : Option ℕ) (offset : ℕ) (xs : List X) → map f (cut limit offset xs) ≡ cut limit offset (map f xs)
 map-cut f None offset xs = map-drop f offset xs
 map-cut f (Some n) offset xs = map-take f n (drop offset xs) ∙ ap (take n) (map-drop f offset xs)
 

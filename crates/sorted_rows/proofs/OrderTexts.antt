@@ -1,6 +1,6 @@
 -- The texts of all rows in order, cut, are those of the sorted answer.
-use Rattle.std.proofs.Common.{◌≡◌, ◌∙◌, ◌^◌, ◌<◌, arith, ℕ, zero, suc, List, [], ◌∷◌, ◌++◌, length, take, drop, refl, sym, ap, subst}
-use Rattle.std.specs.Prelude.{Option, Some, None, map, Result, Ok, Err}
+use Rattle.std.proofs.Common.{◌≡◌, ◌∙◌, ◌^◌, ◌<◌, arith, ℕ, List, [], ◌∷◌, ◌++◌, length, refl, sym, ap, subst}
+use Rattle.std.specs.Prelude.{Option, map, Result, Ok, Err}
 use Rattle.std.specs.List.{flat_map}
 use Rattle.std.specs.List.Sorted.{IsPermutation, IsSorted}
 use Rattle.rdf_model.specs.Terms.{Text, Term}
@@ -16,7 +16,7 @@ use Rattle.tn_io.specs.OutText.{Puts}
 use Rattle.tn_io.proofs.PutLemmas.{puts_both, puts_first, puts_same}
 use Rattle.run_model.specs.Answers.{line_text, row_line, reply_text, Rows, rows_told, Listed, answer_text}
 use Rattle.solution_model.specs.Answers.{chosen_rows, cut, sorted_answer}
-use Rattle.solution_model.specs.AnswerLaws.{unlimited, sorted_texts}
+use Rattle.solution_model.specs.AnswerLaws.{unlimited, map-cut, sorted_texts}
 use Rattle.solution_model.specs.Rows.{Row, all_rows}
 use Rattle.solution_model.specs.Texts.{header_text, row_text}
 use Rattle.sorted_rows.specs.declared.cut.Cut.{Cut}
@@ -26,20 +26,6 @@ use Rattle.sorted_rows.specs.Sorted.{IsUncut, GivesAllRows, all_texts}
 pub texts_in_order : (q : Query) (G : Graph) (s : Listing Term) (rows : List Row) (found texts : List Text) → GivesAllRows q G s → MayGive s rows → found ≡ map row_text rows → IsPermutation found texts → IsSorted text_cmp texts → texts ≡ all_texts q G
 texts_in_order q G s rows found texts gives may are moved sorted =
     sym (sorted_texts (unlimited q) G rows texts (gives rows may) (subst (λ ts. IsPermutation ts texts) are moved) sorted)
-
-map-drop : {X Y : Type 0} (f : X → Y) (n : ℕ) (xs : List X) → map f (drop n xs) ≡ drop n (map f xs)
-map-drop f zero xs = refl
-map-drop f (suc n) [] = refl
-map-drop f (suc n) (x ∷ xs) = map-drop f n xs
-
-map-take : {X Y : Type 0} (f : X → Y) (n : ℕ) (xs : List X) → map f (take n xs) ≡ take n (map f xs)
-map-take f zero xs = refl
-map-take f (suc n) [] = refl
-map-take f (suc n) (x ∷ xs) = ap (λ ys. f x ∷ ys) (map-take f n xs)
-
-map-cut : {X Y : Type 0} (f : X → Y) (limit : Option ℕ) (offset : ℕ) (xs : List X) → map f (cut limit offset xs) ≡ cut limit offset (map f xs)
-map-cut f None offset xs = map-drop f offset xs
-map-cut f (Some n) offset xs = map-take f n (drop offset xs) ∙ ap (take n) (map-drop f offset xs)
 
 -- the texts of the sorted answer
 pub cut_texts : (q : Query) (G : Graph) → cut q.limit q.offset (all_texts q G) ≡ map row_text (sorted_answer q G)

@@ -1,13 +1,10 @@
 //! The answer of a query whose rows are put in order.
 ghost use Rattle.std.specs.Prelude.{◌≡◌, length, IfOk};
 ghost use Rattle.std.specs.List.{flat_map};
-ghost use Rattle.rdf_model.specs.Graph.{Graph};
-ghost use Rattle.query_grammar.specs.Meaning as meaning;
-ghost use Rattle.run_model.specs.Answers.{Listed, answer_text, line_text};
-ghost use Rattle.solution_model.specs.Answers.{sorted_answer};
+ghost use Rattle.run_model.specs.Answers.{line_text};
 ghost use Rattle.tn_io.specs.OutText.{Puts};
 ghost use Rattle.listing_text.specs.Rows.{HasWidth};
-ghost use Rattle.sorted_rows.specs.Sorted.{IsUncut, GivesAllRows, all_texts};
+ghost use Rattle.sorted_rows.specs.Sorted.{AreAllTexts, OfSortedAnswer};
 
 use crate::cut::{Cut, left_by};
 use crate::texts::texts_of;
@@ -29,7 +26,7 @@ pub fn sorted_texts<W: Ledger>(
 ) -> Result<Vec<Text>, Memory>
     requires columns { columns ≡ length listing.columns }
     requires wide { HasWidth listing }
-    ensures { (q : meaning.Query) (G : Graph) → GivesAllRows q G listing.entry → IfOk result (λ texts. texts.items ≡ all_texts q G) }
+    ensures { IfOk result (λ texts. AreAllTexts listing.entry texts.items) }
 {
     let mut texts = texts_of(alloc, listing, columns, reads)?;
     texts.sort_unstable();
@@ -65,8 +62,7 @@ pub fn put_sorted<K: Sink>(
     out: &mut Out<'_, K>,
 ) -> Result<(), Failed>
     ensures same_sink { out.new.sink.ghost_name ≡ out.old.sink.ghost_name }
-    ensures put { (q : meaning.Query) (G : Graph) → IsUncut q query.now cut → texts.now ≡ all_texts q G
-        → Puts K.written K.faults out.old out.new result (answer_text (Listed q.columns (sorted_answer q G))) }
+    ensures put { OfSortedAnswer query.now cut texts.now (λ text. Puts K.written K.faults out.old out.new result text) }
 {
     let rows = left_by(texts, cut);
     header(query, out)?;

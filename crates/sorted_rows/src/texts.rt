@@ -1,12 +1,12 @@
 //! The texts of the rows of a listing.
-ghost use Rattle.std.specs.Prelude.{◌≡◌, ◌++◌, List, length, map, Some, IsSome, IfOk, OnOk};
+ghost use Rattle.std.specs.Prelude.{◌≡◌, ◌++◌, List, length, map, IsSome, IfOk, OnOk};
 ghost use Rattle.std.specs.Option.{option_map};
 ghost use Rattle.rdf_term.specs.Seen.{lent_term};
-ghost use Rattle.answer_text.specs.Fields.{parting};
+ghost use Rattle.answer_text.specs.Fields.{field_behind};
 ghost use Rattle.bag_model.specs.Listings.{MayGive};
 ghost use Rattle.solution_model.specs.Rows.{Row};
-ghost use Rattle.solution_model.specs.Texts.{field_text, row_text};
-ghost use Rattle.listing_text.specs.Rows.{HasWidth};
+ghost use Rattle.solution_model.specs.Texts.{row_text};
+ghost use Rattle.listing_text.specs.Rows.{HasWidth, OfPresent};
 
 use graph_listing::Listing;
 use rdf_term::{TermRef, tsv_text};
@@ -22,7 +22,7 @@ fn add_field(
     first: bool,
     text: &mut Text,
 ) -> Result<(), Memory>
-    ensures { OnOk result (text.new ≡ text.old ++ (parting first ++ field_text (option_map lent_term term.entry))) }
+    ensures { OnOk result (text.new ≡ text.old ++ field_behind first (option_map lent_term term.entry)) }
 {
     if !first {
         text.push("\t")?;
@@ -37,7 +37,7 @@ fn add_field(
 fn text_of(alloc: Global, listing: &Listing<'_>, columns: usize) -> Result<Text, Memory>
     requires given { IsSome listing.now.present }
     requires columns { columns ≡ length listing.now.columns }
-    ensures { (row : Row) → listing.now.present ≡ Some row → length row ≡ columns → IfOk result (λ text. text ≡ row_text row) }
+    ensures { OfPresent listing.now columns (λ row. IfOk result (λ text. text ≡ row_text row)) }
 {
     let mut text = Text::new(alloc);
     for col in 0..columns {

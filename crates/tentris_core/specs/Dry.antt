@@ -1,10 +1,14 @@
 -- A dry run: a script in memory is carried out over files in memory, no read or write of which fails, and nobody reads the answers.
 use Rattle.std.specs.Prelude.{◌≡◌, ℕ, List, [], ◌∷◌, ⊤, None, Some, IfSome}
+use Rattle.std.specs.Prelude.{map as map_list}
+use Rattle.std.specs.Borrow.{Bor}
 use Rattle.std.specs.FinMap as map
 use Rattle.file_model.specs.FileMap.{FileMap}
 use Rattle.command_words.specs.Answers as words
 use Rattle.command_words.specs.declared.Settings.{Settings}
 use Rattle.tn_io.specs.FileFaults.{FaultCounts}
+use Rattle.tn_io.specs.MemoryFiles.{pure_files, pure_faults}
+use Rattle.tn_io.specs.declared.memory_files.PureFiles.{PureFiles}
 use Rattle.graph_store.specs.State.{State}
 use Rattle.tentris_core.specs.Carrying.{StoreEvent}
 use Rattle.tentris_core.specs.Traffic.{Traffic, traffic}
@@ -29,3 +33,8 @@ pub record DryCall (answer : words.Answer) (status : Status) (mixed : ℕ → �
   pub missing : (settings : Settings) (trace : List StoreEvent)
       → CarriesOut (around_by settings mixed (Some files)) (bounded_by settings s) t (unheard script before) (unheard left now) trace
       → FailOnlyMissing files trace
+
+-- a dry run by these words of a command line, over files in memory
+abbrev pub EndsDry : (ℕ → ℕ → ℕ → ℕ → ℕ) → List (Bor (List ℕ)) → List ℕ → PureFiles → PureFiles → State → State → Status → Type 0
+EndsDry mixed given script before now s t status =
+    DryCall (words.answer_to (map_list (λ (word : Bor (List ℕ)). word.now) given)) status mixed (pure_files before) s t script (pure_faults before) (pure_faults now)

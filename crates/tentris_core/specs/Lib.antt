@@ -4,6 +4,7 @@ pub mod Carrying
 pub mod Traffic
 pub mod Questions
 pub mod Places
+pub mod Blocks
 pub mod Runs
 pub mod Called
 pub mod Complete

@@ -1,5 +1,5 @@
 -- What is known of the lines of a query's block, and what its answer writes.
-use Rattle.std.specs.Prelude.{◌≡◌, ℕ, List, Option, Some, None, Result}
+use Rattle.std.specs.Prelude.{◌≡◌, ℕ, Bool, false, List, [], ◌∷◌, ◌++◌, Option, Some, None, Result}
 use Rattle.rdf_model.specs.Terms.{Term}
 use Rattle.text_lines.specs.Lines.{Line}
 use Rattle.script_model.specs.Commands as script
@@ -22,6 +22,7 @@ use Rattle.tentris_core.specs.declared.question.Question.TheVariants.{Text, Refu
 use Rattle.tentris_core.specs.declared.outcome.Outcome.{Outcome}
 use Rattle.tentris_core.specs.Puts.{PassesOn, WritesAnswer}
 use Rattle.line_batch.specs.Carrying.{Around, Carries}
+use Rattle.line_batch.specs.Sound.{IsSound}
 
 -- what the lines of the block say so far: their text, or that it is too long
 abbrev pub IsGathered : List Line → Question → Type 0
@@ -46,3 +47,29 @@ pub record PassesAnswer {K : Type 0} (written : K → Option (List ℕ)) (faults
   pub rows : List Row
   pub given : MayGive s rows
   pub passes : PassesOn written faults old new result (answer_text (Listed columns rows))
+
+-- the lines of the block and one more, where the first ones have this text
+abbrev pub GathersBehind : List ℕ → Line → Question → Type 0
+GathersBehind text line question = (body : List Line) → question_of body ≡ Some text → IsGathered (body ++ line ∷ []) question
+
+-- the query of a block whose lines were gathered so was answered, where rows are sorted or not
+abbrev pub AnswersGathered : {K : Type 0} → Bool → Question → State → (K → Option (List ℕ)) → Out K → Out K → Outcome → Type 0
+AnswersGathered sorted question s written old new outcome =
+    (A : Around) (body : List Line) → A.sorted ≡ sorted → IsSound A.mixed s → IsGathered body question → AnswersQuestion A body s (written old.sink.now) (written new.sink.now) outcome
+
+-- the query of this text was
+abbrev pub AnswersText : {K : Type 0} → Bool → List ℕ → State → (K → Option (List ℕ)) → Out K → Out K → Outcome → Type 0
+AnswersText sorted text s written old new outcome =
+    (A : Around) (body : List Line) → A.sorted ≡ sorted → IsSound A.mixed s → question_of body ≡ Some text → AnswersQuestion A body s (written old.sink.now) (written new.sink.now) outcome
+
+-- the query was, its rows in any order
+abbrev pub Lists : {K : Type 0} → meaning.Query → State → (K → Option (List ℕ)) → Out K → Out K → Outcome → Type 0
+Lists query s written old new outcome =
+    (A : Around) (body : List Line) (text : List ℕ) → A.sorted ≡ false → IsSound A.mixed s → question_of body ≡ Some text → meaning.query_of text ≡ meaning.IsQuery query
+    → AnswersQuestion A body s (written old.sink.now) (written new.sink.now) outcome
+
+-- the query was, its rows sorted, which is right wherever any order is
+abbrev pub Sorts : {K : Type 0} → meaning.Query → State → (K → Option (List ℕ)) → Out K → Out K → Outcome → Type 0
+Sorts query s written old new outcome =
+    (A : Around) (body : List Line) (text : List ℕ) → IsSound A.mixed s → question_of body ≡ Some text → meaning.query_of text ≡ meaning.IsQuery query
+    → AnswersQuestion A body s (written old.sink.now) (written new.sink.now) outcome

@@ -1,20 +1,18 @@
 //! The lines of blocks, and the commands that lines outside blocks give.
 //!
 //! A block's lines are judged as they come; the graph is changed once, where the block ends.
-ghost use Rattle.std.specs.Prelude.{◌≡◌, ◌≤◌, ◌+◌, ◌<◌, ◌-◌, ◌^◌, ◌++◌, ◌∷◌, [], List, length, IfSome, None};
-ghost use Rattle.text_lines.specs.Lines.{Line};
+ghost use Rattle.std.specs.Prelude.{◌≡◌, ◌≤◌, ◌+◌, ◌<◌, ◌-◌, ◌^◌, [], length, IfSome};
 ghost use Rattle.script_model.specs.Commands as script;
 ghost use Rattle.graph_store.specs.State.{State, IsSettled};
-ghost use Rattle.tn_io.specs.FileFaults.{FaultCounts};
 ghost use Rattle.line_batch.specs.Seen.{answer_of};
 ghost use Rattle.line_batch.specs.Sound.{IsSound};
 ghost use Rattle.line_batch.specs.Batches.{lent_line, IsNone, IsReady, MayBeScope};
-ghost use Rattle.line_batch.specs.Carrying.{Around, Carries};
+ghost use Rattle.line_batch.specs.Carrying.{Around};
 ghost use Rattle.tentris_core.specs.Carrying.{around};
-ghost use Rattle.tentris_core.specs.Places.{IsBlock, IsAt, IsReadyAt, CarriesLine, MeetsLine, TakesLine, Position, Outside, Inside, lines_in, effects};
+ghost use Rattle.tentris_core.specs.Places.{IsAt, IsReadyAt, CarriesLine, MeetsLine, TakesLine, Position, Outside, lines_in, effects};
+ghost use Rattle.tentris_core.specs.Blocks.{HasLineMore, Shows, BeginsBlock, MeetsInBlock, AsksOn};
 ghost use Rattle.tentris_core.specs.Puts.{IsPassedOn, HasOutcome};
 ghost use Rattle.tentris_core.specs.Seen.{Tells};
-ghost use Rattle.tentris_core.specs.Questions.{IsGathered};
 
 use crate::outcome::{Outcome, pass_on};
 use crate::question::Question;
@@ -56,8 +54,7 @@ impl Block {
         requires short { IfSome line (λ l. length l.now ≤ 1048576) }
         requires room { self.lines < 2 ^ 64 - 1 }
         requires ready { IsReady store.old self.batch }
-        ensures { (s : State) (change : script.Change) (body : List Line) → IsBlock s change body store.old self
-            → IsBlock s change (body ++ lent_line line.entry ∷ []) store.new result }
+        ensures { HasLineMore (lent_line line.entry) store.old self store.new result }
     {
         let Block { lines, batch } = self;
         let number = lines + 1;
@@ -87,7 +84,7 @@ impl Place {
 
 // Answers the lines of the graph.
 fn dump<M: Mix>(alloc: Global, store: &Store<M>) -> Answer
-    ensures { (A : Around) → IsSound A.mixed store.now → Carries A store.now (script.Single script.Dump) store.now (answer_of result) None }
+    ensures { Shows script.Dump store.now (answer_of result) }
 {
     match store.dump(alloc) {
         Ok(lines) => Answer::Dumped(lines),
@@ -97,7 +94,7 @@ fn dump<M: Mix>(alloc: Global, store: &Store<M>) -> Answer
 
 // Answers the lines of the graph's shape.
 fn shape<M: Mix>(alloc: Global, store: &Store<M>) -> Answer
-    ensures { (A : Around) → IsSound A.mixed store.now → Carries A store.now (script.Single script.Shape) store.now (answer_of result) None }
+    ensures { Shows script.Shape store.now (answer_of result) }
 {
     match store.shape(alloc) {
         Ok(lines) => Answer::Shaped(lines),
@@ -108,7 +105,7 @@ fn shape<M: Mix>(alloc: Global, store: &Store<M>) -> Answer
 // Answers the figures of the graph.
 fn stats<M: Mix>(store: &Store<M>) -> Answer
     requires { IsSettled store.now }
-    ensures { (A : Around) → IsSound A.mixed store.now → Carries A store.now (script.Single script.Stats) store.now (answer_of result) None }
+    ensures { Shows script.Stats store.now (answer_of result) }
 {
     Answer::Counted(store.stats())
 }
@@ -203,7 +200,7 @@ fn outside<M: Mix, F: Files, W: Ledger, V: Ledger, U: Ledger>(
 
 // A block without a line yet, whose triples go as the empty batch says.
 fn begin(batch: Batch) -> Place
-    ensures { (s : State) (change : script.Change) → IsNone s change batch → IsAt (Inside (script.Triples change) []) s s result }
+    ensures { BeginsBlock batch result }
 {
     Place::Inside(Block { lines: 0, batch })
 }
@@ -230,9 +227,7 @@ fn inside<M: Mix, W: Ledger, V: Ledger, U: Ledger>(
     requires short { IfSome line (λ l. length l.now ≤ 1048576) }
     requires room { block.lines < 2 ^ 64 - 1 }
     requires ready { IsReady store.old block.batch }
-    ensures { (A : Around) (s : State) (change : script.Change) (body : List Line) (faults : FaultCounts) → A.mixed ≡ M.mixed → IsSound A.mixed s
-        → IsBlock s change body store.old block
-        → MeetsLine A (Inside (script.Triples change) body) (lent_line line.entry) s store.new result.0 faults faults result.1 }
+    ensures { MeetsInBlock M.mixed (lent_line line.entry) store.old block store.new result.0 result.1 }
 {
     if ends(line) {
         let Block { lines: _, batch } = block;
@@ -255,9 +250,7 @@ fn asks<M: Mix, K: Sink, W: Ledger, V: Ledger, U: Ledger>(
     requires short { IfSome line (λ l. length l.now ≤ 1048576) }
     requires empty { out.old.buffer ≡ [] }
     ensures same_sink { out.new.sink.ghost_name ≡ out.old.sink.ghost_name }
-    ensures takes { (A : Around) (body : List Line) (faults : FaultCounts) → A.sorted ≡ sorted → IsSound A.mixed store.now → IsGathered body question
-        → TakesLine A (Inside script.Question body) (lent_line line.entry) store.now store.now result.0
-        (effects (K.written out.old.sink.now) faults) (effects (K.written out.new.sink.now) faults) result.1 }
+    ensures takes { AsksOn sorted (lent_line line.entry) question store.now K.written out.old out.new result.0 result.1 }
     ensures empty { IsPassedOn result.1 out.new }
     ensures cause { HasOutcome (K.faults out.old.sink.now) (K.faults out.new.sink.now) result.1 }
 {

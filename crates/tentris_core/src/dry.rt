@@ -4,9 +4,9 @@ ghost use Rattle.command_words.specs.Answers.{answer_to};
 ghost use Rattle.graph_store.specs.State.{IsSettled};
 ghost use Rattle.graph_store.specs.Stands.{Stands};
 ghost use Rattle.tn_io.specs.Memory.{pure_left};
-ghost use Rattle.tn_io.specs.MemoryFiles.{pure_files, pure_faults};
+ghost use Rattle.tn_io.specs.MemoryFiles.{pure_files};
 ghost use Rattle.tentris_core.specs.Called.{IsByWords};
-ghost use Rattle.tentris_core.specs.Dry.{DryCall};
+ghost use Rattle.tentris_core.specs.Dry.{EndsDry};
 
 use crate::running::{Status, run};
 use graph_store::{NoWatch, Store};
@@ -23,8 +23,7 @@ fn run_unheard<M: Mix>(
     script: &mut PureSource,
 ) -> Status
     requires settled { IsSettled store.old }
-    ensures ends { DryCall (answer_to (map (λ word. word.now) words.now)) result M.mixed (pure_files files.old) store.old store.new
-        (pure_left script.old) (pure_faults files.old) (pure_faults files.new) }
+    ensures ends { EndsDry M.mixed words.now (pure_left script.old) files.old files.new store.old store.new result }
     ensures words { IsByWords (answer_to (map (λ word. word.now) words.now)) result }
     ensures settled { IsSettled store.new }
     ensures stands { Stands M.mixed store.new }
@@ -48,8 +47,7 @@ pub fn dry_run<M: Mix>(
     script: Vec<u8>,
 ) -> Status
     requires settled { IsSettled store.old }
-    ensures ends { DryCall (answer_to (map (λ word. word.now) words.now)) result M.mixed (pure_files files.old) store.old store.new
-        script.items (pure_faults files.old) (pure_faults files.new) }
+    ensures ends { EndsDry M.mixed words.now script.items files.old files.new store.old store.new result }
     ensures words { IsByWords (answer_to (map (λ word. word.now) words.now)) result }
     ensures settled { IsSettled store.new }
     ensures stands { Stands M.mixed store.new }

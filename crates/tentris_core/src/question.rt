@@ -1,22 +1,15 @@
 //! The lines of a query's block, and its answer. Rows are put one by one as the listing gives them.
-ghost use Rattle.std.specs.Prelude.{◌≡◌, ◌≤◌, ◌∷◌, ◌++◌, [], List, ℕ, false, length, IfSome, OnOk, Some, Err};
+ghost use Rattle.std.specs.Prelude.{◌≡◌, ◌≤◌, ◌∷◌, ◌++◌, [], List, length, IfSome, OnOk, Err};
 ghost use Rattle.text_lines.specs.Lines.{Line};
-ghost use Rattle.script_model.specs.Commands.{question_of};
-ghost use Rattle.query_grammar.specs.Meaning.{IsQuery, query_of};
 ghost use Rattle.query_grammar.specs.Meaning as meaning;
 ghost use Rattle.query_plan.specs.Labels.{IsLabelled};
 ghost use Rattle.query_plan.specs.Seen.{query_seen};
 ghost use Rattle.query_read.specs.Reads.{Reads};
 ghost use Rattle.listing_text.specs.Rows.{HasWidth};
-ghost use Rattle.sorted_rows.specs.Sorted.{IsUncut, all_texts};
-ghost use Rattle.solution_model.specs.Answers.{sorted_answer};
-ghost use Rattle.run_model.specs.Answers.{answer_text, Listed};
-ghost use Rattle.rdf_model.specs.Graph.{Graph};
+ghost use Rattle.sorted_rows.specs.Sorted.{OfSortedAnswer};
 ghost use Rattle.line_batch.specs.Batches.{lent_line};
-ghost use Rattle.line_batch.specs.Sound.{IsSound};
-ghost use Rattle.line_batch.specs.Carrying.{Around};
 ghost use Rattle.tentris_core.specs.Puts.{PassesOn, IsPassedOn, HasOutcome};
-ghost use Rattle.tentris_core.specs.Questions.{IsGathered, IsFault, AnswersQuestion, PassesAnswer};
+ghost use Rattle.tentris_core.specs.Questions.{IsGathered, IsFault, PassesAnswer, AnswersGathered, AnswersText, Lists, Sorts, GathersBehind};
 
 use crate::outcome::{Outcome, pass_on};
 use answer_text::Refusal;
@@ -82,8 +75,7 @@ impl Question {
     ) -> Outcome
         requires empty { out.old.buffer ≡ [] }
         ensures same_sink { out.new.sink.ghost_name ≡ out.old.sink.ghost_name }
-        ensures answers { (A : Around) (body : List Line) → A.sorted ≡ sorted → IsSound A.mixed store.now → IsGathered body self
-            → AnswersQuestion A body store.now (K.written out.old.sink.now) (K.written out.new.sink.now) result }
+        ensures answers { AnswersGathered sorted self store.now K.written out.old out.new result }
         ensures empty { IsPassedOn result out.new }
         ensures cause { HasOutcome (K.faults out.old.sink.now) (K.faults out.new.sink.now) result }
     {
@@ -105,8 +97,7 @@ fn ask<M: Mix, K: Sink, U: Ledger>(
 ) -> Outcome
     requires empty { out.old.buffer ≡ [] }
     ensures same_sink { out.new.sink.ghost_name ≡ out.old.sink.ghost_name }
-    ensures answers { (A : Around) (body : List Line) → A.sorted ≡ sorted → IsSound A.mixed store.now → question_of body ≡ Some text.now
-        → AnswersQuestion A body store.now (K.written out.old.sink.now) (K.written out.new.sink.now) result }
+    ensures answers { AnswersText sorted text.now store.now K.written out.old out.new result }
     ensures empty { IsPassedOn result out.new }
     ensures cause { HasOutcome (K.faults out.old.sink.now) (K.faults out.new.sink.now) result }
 {
@@ -164,8 +155,7 @@ fn list<M: Mix, K: Sink, U: Ledger>(
     requires labelled { IsLabelled query.now }
     requires empty { out.old.buffer ≡ [] }
     ensures same_sink { out.new.sink.ghost_name ≡ out.old.sink.ghost_name }
-    ensures answers { (A : Around) (body : List Line) (text : List ℕ) → A.sorted ≡ false → IsSound A.mixed store.now → question_of body ≡ Some text → query_of text ≡ IsQuery (query_seen query.now)
-        → AnswersQuestion A body store.now (K.written out.old.sink.now) (K.written out.new.sink.now) result }
+    ensures answers { Lists (query_seen query.now) store.now K.written out.old out.new result }
     ensures empty { IsPassedOn result out.new }
     ensures cause { HasOutcome (K.faults out.old.sink.now) (K.faults out.new.sink.now) result }
 {
@@ -187,8 +177,7 @@ fn put_sorted_whole<K: Sink>(
 ) -> Result<(), Failed>
     requires empty { out.old.buffer ≡ [] }
     ensures same_sink { out.new.sink.ghost_name ≡ out.old.sink.ghost_name }
-    ensures text { (q : meaning.Query) (G : Graph) → IsUncut q query.now cut → texts.now ≡ all_texts q G
-        → PassesOn K.written K.faults out.old out.new result (answer_text (Listed q.columns (sorted_answer q G))) }
+    ensures text { OfSortedAnswer query.now cut texts.now (λ t. PassesOn K.written K.faults out.old out.new result t) }
 {
     put_sorted(query, cut, texts, out)?;
     out.flush()
@@ -205,8 +194,7 @@ fn sort<M: Mix, K: Sink, U: Ledger>(
     requires labelled { IsLabelled query }
     requires empty { out.old.buffer ≡ [] }
     ensures same_sink { out.new.sink.ghost_name ≡ out.old.sink.ghost_name }
-    ensures answers { (A : Around) (body : List Line) (text : List ℕ) → IsSound A.mixed store.now → question_of body ≡ Some text → query_of text ≡ IsQuery (query_seen query)
-        → AnswersQuestion A body store.now (K.written out.old.sink.now) (K.written out.new.sink.now) result }
+    ensures answers { Sorts (query_seen query) store.now K.written out.old out.new result }
     ensures empty { IsPassedOn result out.new }
     ensures cause { HasOutcome (K.faults out.old.sink.now) (K.faults out.new.sink.now) result }
 {
@@ -226,7 +214,7 @@ fn sort<M: Mix, K: Sink, U: Ledger>(
 // A text with one more line.
 fn with_text(mut text: Vec<u8>, line: Option<&[u8]>) -> Question
     requires short { IfSome line (λ l. length l.now ≤ 1048576) }
-    ensures { (body : List Line) → question_of body ≡ Some text.items → IsGathered (body ++ lent_line line.entry ∷ []) result }
+    ensures { GathersBehind text.items (lent_line line.entry) result }
 {
     let Some(line) = line else {
         return Question::Refused(Refusal::Long);

@@ -8,7 +8,7 @@ ghost use Rattle.trie_context.specs.Rows.{no_tables};
 ghost use Rattle.trie_context.specs.Roots.{IsHeld};
 ghost use Rattle.trie_change.specs.Batches.{set_of_entries, IsOnce};
 ghost use Rattle.graph_image.specs.Images.{AreKnown};
-ghost use Rattle.worked_lines.specs.Tried.{is_below_four};
+ghost use Rattle.worked_lines.specs.Tried.{is_below_four, HasFour};
 
 use graph_lines::{dump, shape_lines};
 use graph_view::{GraphView, TablesView};
@@ -94,7 +94,7 @@ fn is_id(dict: &Dict, id: Id, iri: &str) -> bool
 
 /// Whether the first four Ids are those of the IRIs.
 fn are_ids(dict: &Dict, iris: &[&str; 4]) -> bool
-    ensures { IsTrue result → IsSome (map.get dict.now 0) × IsSome (map.get dict.now 1) × IsSome (map.get dict.now 2) × IsSome (map.get dict.now 3) }
+    ensures { IsTrue result → HasFour dict.now }
 {
     is_id(dict, Id(0), iris[0])
         && is_id(dict, Id(1), iris[1])

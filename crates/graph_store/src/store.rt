@@ -54,8 +54,19 @@ impl<M: Mix> Store<M> {
         ensures max { result.max ≡ 10000000 }
         ensures settled { IsSettled result }
     {
+        Store::seeded(alloc, 0)
+    }
+
+    /// The same. Who doesn't know the seed can't choose terms of one hash, which would slow look-ups down.
+    pub fn seeded(alloc: Global, seed: u64) -> Store<M>
+        ensures graph { graph result ≡ set.empty }
+        ensures dict { result.dict ≡ map.empty }
+        ensures tables { result.tables ≡ no_tables }
+        ensures max { result.max ≡ 10000000 }
+        ensures settled { IsSettled result }
+    {
         Store {
-            dict: Dict::new(alloc),
+            dict: Dict::seeded(alloc, seed),
             ctx: Context::new(alloc),
             root: Root::Empty,
             max: 10_000_000,

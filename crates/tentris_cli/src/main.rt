@@ -20,6 +20,7 @@ use standard::{Input, Output};
 use std::alloc::{AllocError, Global};
 use std::env::Args;
 use std::process::ExitCode;
+use std::random::RandomSource;
 use std::{env, io};
 use tentris_core::{Status, run};
 use trie_depth::SplitMix;
@@ -62,6 +63,15 @@ fn lent<'a>(alloc: Global, words: &'a [String]) -> Result<Vec<&'a str>, AllocErr
     Ok(lent)
 }
 
+// A number that nobody can know beforehand, or 0 where the system has none.
+fn seed(rt: &HostRuntime) -> u64 {
+    let mut bytes = [0; 8];
+    match rt.fill_bytes(&mut bytes) {
+        Ok(()) => u64::from_le_bytes(bytes),
+        Err(_) => 0,
+    }
+}
+
 // Carries out the script on standard input over an empty graph.
 fn carry_out(rt: &HostRuntime, words: &[String]) -> Status
     ensures words { IsByWords (answer_to (map string_bytes words.now)) result }
@@ -69,7 +79,7 @@ fn carry_out(rt: &HostRuntime, words: &[String]) -> Status
     let Ok(words) = lent(rt.alloc(), words) else {
         return Status::Memory;
     };
-    let mut store = Store::<SplitMix>::new(rt.alloc());
+    let mut store = Store::<SplitMix>::seeded(rt.alloc(), seed(rt));
     let mut files = Disk::new(rt);
     let mut source = Input::new(rt.stdin());
     let mut sink = Output::new(rt.stdout());

@@ -8,4 +8,6 @@ mod harness;
 #[cfg(test)]
 mod large;
 #[cfg(test)]
+mod single;
+#[cfg(test)]
 mod watching;

@@ -77,6 +77,53 @@ terms() {
     printf 'GO\nSTATS\nSHAPE\n'
 }
 
+# 100,000 terms that have one hash under the seed 0: five pieces, each in ten ways, and an end
+colliding() {
+    echo INSERT
+    awk 'NR <= 50 { piece[NR] = $0 }
+        NR == 51 {
+            for (k = 0; k < 100000; k++) {
+                text = ""
+                for (group = 0; group < 5; group++)
+                    text = text piece[group * 10 + int(k / 10 ^ group) % 10 + 1]
+                printf "<x:s> <x:p> <%s%s> .\n", text, $0
+            }
+        }' "$(dirname "${BASH_SOURCE[0]}")/colliding_terms.txt"
+    printf 'GO\nSTATS\n'
+}
+
+# 20,000 sets of objects: sums of 16 sets of Ids whose mixes cancel. The first lines give the objects their Ids.
+sets() {
+    awk '{ set[NR] = $0 }
+        END {
+            for (id = 0; id < 81; id += 3)
+                printf "<x:%d> <x:%d> <x:%d> .\n", id, id + 1, id + 2
+            for (node = 1; node <= 20000; node++) {
+                turned = 1
+                for (rest = node; rest % 2 == 0; rest /= 2)
+                    turned++
+                for (id = 0; id < 80; id++) {
+                    if (substr(set[turned], id + 1, 1) == 1)
+                        has[id] = !has[id]
+                    if (has[id])
+                        printf "<x:s%d> <x:0> <x:%d> .\n", node, id
+                }
+            }
+        }' "$(dirname "${BASH_SOURCE[0]}")/colliding_nodes.txt"
+    printf 'GO\nSTATS\n'
+}
+
+nodes() {
+    echo INSERT
+    sets
+}
+
+# the same sets of other Ids, whose mixes don't cancel
+others() {
+    printf 'INSERT\n<x:a> <x:a> <x:a> .\n'
+    sets
+}
+
 measure() {
     local name=$1 seconds kib
     # a script with a refused command ends with 1
@@ -93,3 +140,6 @@ measure 'a prefix of nearly a mebibyte, 32 times' prefix
 measure 'one line of a gibibyte' one_line
 measure '32 patterns of 95 labels, one without triples' product
 measure '100,002 terms, and their shape' terms
+measure '100,000 terms that collide under one seed' colliding
+measure '20,000 nodes that have one hash' nodes
+measure 'the same nodes of other Ids' others

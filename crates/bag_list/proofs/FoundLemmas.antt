@@ -26,7 +26,7 @@ use Rattle.bag_list.specs.declared.track.Track.{Track}
 use Rattle.bag_list.specs.Labels.{labels_of, without}
 use Rattle.bag_list.specs.Levels.{agrees, at_key, coming, from_of, is_below, level_labels, to_come, within}
 use Rattle.bag_list.specs.Search.{AreKept, id_solutions, ids_below, numbers}
-use Rattle.bag_list.specs.Tracks.{part_set, rests, set_with, unfixed}
+use Rattle.bag_list.specs.Tracks.{part_set, parts_of, rests, set_with, unfixed}
 use Rattle.bag_list.proofs.ComingLemmas.{coming-all, coming-append}
 use Rattle.bag_list.proofs.Images.{at-is_at, is_at-at}
 use Rattle.bag_list.proofs.PartSets.{admits-part, has-one, last-has}
@@ -216,7 +216,7 @@ module _ {O : Type 0} (depth_of : O → ℕ) (tuples : O → IdSet) (deep : (o :
         let x = slice_index_or tracks i t in
         let p = x.start in
         let left = track.left 0 p (omega arith) (omega arith) in
-        let y = slice_index_or x.parts.items 0 p in
+        let y = slice_index_or (parts_of x) 0 p in
         let labels : labels_of y.labels ≡ [] = left.labels ∙ ap (λ fs. unfixed fs (labels_of p.labels)) (sym (no-levels levels none)) ∙ none-unfixed x track.below in
         sym (left.image (numbers values) refl)
         ∙ ap (λ ls. has (set_with ls (tuples y.op)) (image (numbers values) ls)) labels
@@ -235,7 +235,7 @@ module _ {O : Type 0} (depth_of : O → ℕ) (tuples : O → IdSet) (deep : (o :
         let f = slice_index_or levels last d in
         let within : last < length levels = omega (arith, n) in
         let left = track.left last p (omega (arith, within)) (omega (arith, n)) in
-        let y = slice_index_or x.parts.items last p in
+        let y = slice_index_or (parts_of x) last p in
         let levels_are : levels ≡ take last levels ++ f ∷ [] = sym (take-length levels) ∙ ap (λ m. take m levels) (let e : length levels ≡ last + 1 = omega (arith, n) in e) ∙ take_more levels last d within in
         let labels : without f.label (labels_of y.labels) ≡ [] = ap (without f.label) left.labels ∙ sym (unfixed-more (take last levels) f (labels_of p.labels)) ∙ ap (λ fs. unfixed fs (labels_of p.labels)) (sym levels_are) ∙ none-unfixed x track.below in
         let agree : (agrees (take last levels) (numbers values) && is_at nat_cmp f.label f.key.0 (numbers values)) ≡ true = sym (agrees-more (take last levels) f (numbers values)) ∙ ap (λ fs. agrees fs (numbers values)) (sym levels_are) ∙ values-agree in

@@ -1,5 +1,5 @@
 -- The operands that have a label.
-use Rattle.std.specs.Prelude.{◌≡◌, ◌≢◌, ℕ, ◌+◌, ◌<◌, ◌≤◌, List, length, take, slice_index_or, slice_set, Option, Some, None}
+use Rattle.std.specs.Prelude.{◌≡◌, ◌≢◌, ℕ, Bool, true, ◌+◌, ◌<◌, ◌≤◌, List, length, take, slice_index_or, slice_set, Option, Some, None}
 use Rattle.std.proofs.Common.{sym, ◌∙◌, ap, subst, arith}
 use Rattle.std.proofs.lemmas.List.{get_or-set_same, get_or-set_other}
 use native.Mathlib.Decide.{ℕ_discrete}
@@ -13,7 +13,8 @@ use Rattle.bag_list.specs.declared.level.Level.{Level}
 use Rattle.bag_list.specs.declared.operands.Operands.{Operands}
 use Rattle.bag_list.specs.declared.track.Track.{Track}
 use Rattle.bag_list.specs.Joins.{AllJoined, IsJoin}
-use Rattle.bag_list.specs.Operands.{AreJoined, AreRoom}
+use Rattle.bag_list.specs.Operands.{AreJoined, AreReady, AreRoom}
+use Rattle.bag_list.specs.Search.{AreKept}
 use Rattle.bag_list.specs.Tracks.{AdmitsAt, AllAdmitAt, AreSameTo}
 use Rattle.bag_list.proofs.Places.{to_next}
 use Rattle.bag_list.proofs.ThroughLemmas.{parts-same, same-before}
@@ -77,3 +78,14 @@ label-set levels last g within label i f = elim (ℕ_discrete i last) as (λ _. 
 
 pub room-of : {O : Type 0} (n : ℕ) (s : Operands O) → length s.joins.items ≡ n → AreRoom (length s.joins.items) s → AreRoom n s
 room-of n s number room = subst (λ m. AreRoom m s) number room
+
+-- where a label is left, one more can be fixed
+pub ready-to-open : {O : Type 0} (depth_of : O → ℕ) (tuples : O → IdSet) (telling : ℕ → Bool) (levels : List Level) (depth told : ℕ) (s : Operands O) (values : List Id) → AreKept depth_of tuples telling levels depth true told s.tracks.items values → depth < length levels → length levels ≤ 96 → AreRoom (length levels) s → AreReady depth_of tuples depth s
+ready-to-open depth_of tuples telling levels depth told s values kept deeper few room = record {
+  low = omega (arith, deeper, few);
+  within = let n = room.number in omega (arith, n, deeper);
+  room = subst (λ m. AreRoom m s) (sym room.number) room;
+  roomy = λ i t lt. let n = (kept.patterns i t lt).room in omega (arith, n, deeper);
+  counted = λ i t lt. (kept.patterns i t lt).counted depth (omega arith) (omega (arith, deeper));
+  parts = λ i t p lt. ((kept.patterns i t lt).left depth p (omega arith) (omega (arith, deeper))).part;
+}

@@ -3,6 +3,7 @@ pub mod LevelLemmas
 pub mod Images
 pub mod PartSets
 pub mod Places
+pub mod CountedLemmas
 pub mod TrackLemmas
 pub mod StartLemmas
 pub mod ComingLemmas

@@ -23,7 +23,8 @@ use Rattle.bag_list.specs.declared.track.Track.{Track}
 use Rattle.bag_list.specs.Labels.{labels_of, without}
 use Rattle.bag_list.specs.Levels.{agrees, from_of, level_labels, n_fresh}
 use Rattle.bag_list.specs.Search.{AreKept, IsTried}
-use Rattle.bag_list.specs.Tracks.{AdmitsAt, AllAdmitAt, IsFixed, IsLeft, IsSameTo, IsTrack, part_at, rest_of, rests, unfixed}
+use Rattle.bag_list.specs.Tracks.{AdmitsAt, AllAdmitAt, IsCounted, IsFixed, IsLeft, IsSameTo, IsTrack, part_at, parts_of, rest_of, rests, unfixed}
+use Rattle.bag_list.proofs.CountedLemmas.{counted-same}
 use Rattle.bag_list.proofs.Places.{to_next}
 
 -- ---- numbers as labels
@@ -115,7 +116,8 @@ module _ {O : Type 0} (depth_of : O → ℕ) (tuples : O → IdSet) where
   track-levels n m k fs gs t le same is = record {
     room = is.room;
     below = is.below;
-    left = λ j p lt before. subst (λ hs. IsLeft depth_of tuples hs t.start (slice_index_or t.parts.items j p)) (sym (same j lt)) (is.left j p (omega (arith, le, lt)) before);
+    counted = λ j lt before. is.counted j (omega (arith, le, lt)) before;
+    left = λ j p lt before. subst (λ hs. IsLeft depth_of tuples hs t.start (slice_index_or (parts_of t) j p)) (sym (same j lt)) (is.left j p (omega (arith, le, lt)) before);
   }
 
   -- a pattern with the same parts
@@ -123,29 +125,34 @@ module _ {O : Type 0} (depth_of : O → ℕ) (tuples : O → IdSet) where
   track-same n m last fs s t le alike is = record {
     room = alike.room ∙ is.room;
     below = subst (λ x. AllByRecursion (λ l. l < n) (labels_of x.labels)) (sym alike.start) is.below;
+    counted = λ j lt in_all. counted-same last s t alike j (omega (arith, lt, le)) (is.counted j lt in_all);
     left = λ j p lt in_all.
-        subst (λ x. IsLeft depth_of tuples (take j fs) x (slice_index_or t.parts.items j p)) (sym alike.start)
+        subst (λ x. IsLeft depth_of tuples (take j fs) x (slice_index_or (parts_of t) j p)) (sym alike.start)
         (subst (λ q. IsLeft depth_of tuples (take j fs) s.start q) (sym (alike.parts j p (omega (arith, lt, le)))) (is.left j p lt in_all));
   }
 
   -- a level more
-  track-entered : (n last : ℕ) (fs gs : List Level) (g : Level) (s t : Track O) (b : Bool) → ((j : ℕ) → j ≤ last → take j gs ≡ take j fs) → take (last + 1) gs ≡ take last fs ++ g ∷ [] → IsSameTo last s t → (b ≡ true → last + 1 ≤ n - 1 → (p : Part O) → IsFixed depth_of tuples g.label g.key.0 (slice_index_or s.parts.items last p) (slice_index_or t.parts.items (last + 1) p)) → IsTrack depth_of tuples n (last + 1) fs s → IsTrack depth_of tuples n (last + 1 + n_fresh b) gs t
-  track-entered n last fs gs g s t b same more alike fixed is = record {
+  track-entered : (n last : ℕ) (fs gs : List Level) (g : Level) (s t : Track O) (b : Bool) → ((j : ℕ) → j ≤ last → take j gs ≡ take j fs) → take (last + 1) gs ≡ take last fs ++ g ∷ [] → IsSameTo last s t → (b ≡ true → last + 1 ≤ n - 1 → (p : Part O) → IsFixed depth_of tuples g.label g.key.0 (slice_index_or (parts_of s) last p) (slice_index_or (parts_of t) (last + 1) p)) → (b ≡ true → last + 1 ≤ n - 1 → IsCounted (last + 1) t) → IsTrack depth_of tuples n (last + 1) fs s → IsTrack depth_of tuples n (last + 1 + n_fresh b) gs t
+  track-entered n last fs gs g s t b same more alike fixed counted is = record {
     room = alike.room ∙ is.room;
     below = subst (λ x. AllByRecursion (λ l. l < n) (labels_of x.labels)) (sym alike.start) is.below;
-    left = λ j p. elim b as (λ b. (b ≡ true → last + 1 ≤ n - 1 → (p : Part O) → IsFixed depth_of tuples g.label g.key.0 (slice_index_or s.parts.items last p) (slice_index_or t.parts.items (last + 1) p)) → j < last + 1 + n_fresh b → j ≤ n - 1 → IsLeft depth_of tuples (take j gs) t.start (slice_index_or t.parts.items j p)) [
+    counted = λ j. elim b as (λ b. (b ≡ true → last + 1 ≤ n - 1 → IsCounted (last + 1) t) → j < last + 1 + n_fresh b → j ≤ n - 1 → IsCounted j t) [
+      | false ↦ λ _ lt in_all. counted-same last s t alike j (omega (arith, lt)) (is.counted j (omega (arith, lt)) in_all)
+      | true ↦ λ more lt. to_next (last + 1) (λ j. j ≤ n - 1 → IsCounted j t) (λ j lt in_all. counted-same last s t alike j (omega (arith, lt)) (is.counted j lt in_all)) (λ in_all. more refl in_all) j (omega (arith, lt))
+    ] counted;
+    left = λ j p. elim b as (λ b. (b ≡ true → last + 1 ≤ n - 1 → (p : Part O) → IsFixed depth_of tuples g.label g.key.0 (slice_index_or (parts_of s) last p) (slice_index_or (parts_of t) (last + 1) p)) → j < last + 1 + n_fresh b → j ≤ n - 1 → IsLeft depth_of tuples (take j gs) t.start (slice_index_or (parts_of t) j p)) [
       | false ↦ λ _ lt in_all. before j p (omega (arith, lt)) in_all
-      | true ↦ λ fixed lt. to_next (last + 1) (λ j. j ≤ n - 1 → IsLeft depth_of tuples (take j gs) t.start (slice_index_or t.parts.items j p)) (λ j lt. before j p lt)
+      | true ↦ λ fixed lt. to_next (last + 1) (λ j. j ≤ n - 1 → IsLeft depth_of tuples (take j gs) t.start (slice_index_or (parts_of t) j p)) (λ j lt. before j p lt)
           (λ in_all.
-          subst (λ hs. IsLeft depth_of tuples hs t.start (slice_index_or t.parts.items (last + 1) p)) (sym more)
-          (subst (λ x. IsLeft depth_of tuples (take last fs ++ g ∷ []) x (slice_index_or t.parts.items (last + 1) p)) (sym alike.start)
+          subst (λ hs. IsLeft depth_of tuples hs t.start (slice_index_or (parts_of t) (last + 1) p)) (sym more)
+          (subst (λ x. IsLeft depth_of tuples (take last fs ++ g ∷ []) x (slice_index_or (parts_of t) (last + 1) p)) (sym alike.start)
           (left-more (take last fs) g s.start _ _ (is.left last p (omega arith) (omega (arith, in_all))) (fixed refl in_all p)))) j (omega (arith, lt))
     ] fixed;
   } where
-    before : (j : ℕ) (p : Part O) → j < last + 1 → j ≤ n - 1 → IsLeft depth_of tuples (take j gs) t.start (slice_index_or t.parts.items j p)
+    before : (j : ℕ) (p : Part O) → j < last + 1 → j ≤ n - 1 → IsLeft depth_of tuples (take j gs) t.start (slice_index_or (parts_of t) j p)
     before j p lt in_all =
-        subst (λ hs. IsLeft depth_of tuples hs t.start (slice_index_or t.parts.items j p)) (sym (same j (omega (arith, lt))))
-        (subst (λ x. IsLeft depth_of tuples (take j fs) x (slice_index_or t.parts.items j p)) (sym alike.start)
+        subst (λ hs. IsLeft depth_of tuples hs t.start (slice_index_or (parts_of t) j p)) (sym (same j (omega (arith, lt))))
+        (subst (λ x. IsLeft depth_of tuples (take j fs) x (slice_index_or (parts_of t) j p)) (sym alike.start)
         (subst (λ q. IsLeft depth_of tuples (take j fs) s.start q) (sym (alike.parts j p (omega (arith, lt)))) (is.left j p lt in_all)))
 
 -- the same starts give the same patterns
@@ -264,8 +271,8 @@ module _ {O : Type 0} (depth_of : O → ℕ) (tuples : O → IdSet) (telling : �
   }
 
   -- the last label has its next key
-  pub kept-entered : (last : ℕ) (g : Level) (now : List (Track O)) (fresh : Bool) → AreKept depth_of tuples telling levels (last + 1) false told tracks values → ((f : Level) → g.label ≡ (slice_index_or levels last f).label) → from_of g.from ≡ g.key.0 + 1 → g.key.0 < 2 ^ 32 → length now ≡ length tracks → ((i : ℕ) (t : Track O) → i < length tracks → IsSameTo last (slice_index_or tracks i t) (slice_index_or now i t)) → (fresh ≡ true → last + 1 ≤ length levels - 1 → (i : ℕ) (t : Track O) (p : Part O) → i < length tracks → IsFixed depth_of tuples g.label g.key.0 (part_at tracks last i t p) (part_at now (last + 1) i t p)) → (length levels ≡ last + 1 → AllAdmitAt tuples tracks last g.label g.key.0) → AreKept depth_of tuples telling (slice_set levels last g) (last + 1) fresh told now (slice_set values g.label g.key)
-  kept-entered last g now fresh kept label next small n_now same fixed admit =
+  pub kept-entered : (last : ℕ) (g : Level) (now : List (Track O)) (fresh : Bool) → AreKept depth_of tuples telling levels (last + 1) false told tracks values → ((f : Level) → g.label ≡ (slice_index_or levels last f).label) → from_of g.from ≡ g.key.0 + 1 → g.key.0 < 2 ^ 32 → length now ≡ length tracks → ((i : ℕ) (t : Track O) → i < length tracks → IsSameTo last (slice_index_or tracks i t) (slice_index_or now i t)) → (fresh ≡ true → last + 1 ≤ length levels - 1 → (i : ℕ) (t : Track O) (p : Part O) → i < length tracks → IsFixed depth_of tuples g.label g.key.0 (part_at tracks last i t p) (part_at now (last + 1) i t p)) → (fresh ≡ true → last + 1 ≤ length levels - 1 → (i : ℕ) (t : Track O) → i < length now → IsCounted (last + 1) (slice_index_or now i t)) → (length levels ≡ last + 1 → AllAdmitAt tuples tracks last g.label g.key.0) → AreKept depth_of tuples telling (slice_set levels last g) (last + 1) fresh told now (slice_set values g.label g.key)
+  kept-entered last g now fresh kept label next small n_now same fixed counted admit =
       let long = length-set levels last g in
       let w = kept.within in
       let within : last < length levels = omega (arith, w) in
@@ -278,7 +285,7 @@ module _ {O : Type 0} (depth_of : O → ℕ) (tuples : O → IdSet) (telling : �
         told_within = let n = kept.told_within in omega (arith, n, long);
         patterns = λ i t lt. subst (λ n. IsTrack depth_of tuples n (last + 1 + n_fresh fresh) (slice_set levels last g) (slice_index_or now i t)) (sym long)
             (let lt_old : i < length tracks = omega (arith, lt, n_now) in
-            track-entered depth_of tuples (length levels) last levels (slice_set levels last g) g (slice_index_or tracks i t) (slice_index_or now i t) fresh (λ j le. take-set-le j levels last g le) (take_more_set levels last g within) (same i t lt_old) (λ e before p. fixed e before i t p lt_old)
+            track-entered depth_of tuples (length levels) last levels (slice_set levels last g) g (slice_index_or tracks i t) (slice_index_or now i t) fresh (λ j le. take-set-le j levels last g le) (take_more_set levels last g within) (same i t lt_old) (λ e before p. fixed e before i t p lt_old) (λ e before. counted e before i t lt)
             (track-levels depth_of tuples (length levels) (last + 1 + 0) (last + 1) levels levels (slice_index_or tracks i t) (omega arith) (λ j _. refl) (kept.patterns i t lt_old)));
         n_values = length-set values g.label g.key ∙ kept.n_values ∙ sym long;
         keys = λ j f k. to_next last (λ j. slice_index_or (slice_set values g.label g.key) (slice_index_or (slice_set levels last g) j f).label k ≡ (slice_index_or (slice_set levels last g) j f).key)

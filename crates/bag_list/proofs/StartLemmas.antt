@@ -12,8 +12,14 @@ use Rattle.bag_list.specs.declared.track.Part.{Part}
 use Rattle.bag_list.specs.declared.track.Start.{Start}
 use Rattle.bag_list.specs.declared.track.Track.{Track}
 use Rattle.bag_list.specs.Labels.{array_labels, labels_of}
-use Rattle.bag_list.specs.Tracks.{IsLeft, IsPart, IsStart, IsTrack, rest_of, rests, rests_of, start_set}
+use Rattle.bag_list.specs.Tracks.{IsCounted, IsLeft, IsPart, IsStart, IsTrack, height_at, parts_of, rest_of, rests, rests_of, slot_of, start_set}
+use Rattle.bag_list.proofs.CountedLemmas.{part-slot}
 use Rattle.bag_list.proofs.PartSets.{set-some, set-whole}
+use Rattle.bag_list.proofs.TrackLemmas.{labels-short}
+
+pub no-operand : {O : Type 0} (o : Option O) → ((x : O) → o ≡ Some x → ⊥) → o ≡ None
+no-operand None none = refl
+no-operand (Some x) none = absurd (none x refl)
 
 module _ {O : Type 0} (depth_of : O → ℕ) (tuples : O → IdSet) (n : ℕ) (s : Start O) (o : O) (ls : Labels) (is : s.op ≡ Some o) (labels : labels_of ls ≡ array_labels s.labels) (start : IsStart depth_of tuples n s) (all-deep : (o : O) → HasDepth (depth_of o) (tuples o)) where
   p : Part O
@@ -38,14 +44,22 @@ module _ {O : Type 0} (depth_of : O → ℕ) (tuples : O → IdSet) (n : ℕ) (s
     some = set-some (labels_of ls) (tuples o) start-some;
   }
 
-  pub start-track : (t : Track O) → t.start ≡ record { op = o; labels = ls } → length t.parts.items ≡ n + 1 → ((j : ℕ) (q : Part O) → j < n + 1 → slice_index_or t.parts.items j q ≡ record { op = o; labels = ls }) → (fs : List Level) → IsTrack depth_of tuples n 1 fs t
+  -- what is left where no label is fixed
+  first-part : (t : Track O) → length (parts_of t) ≡ n + 1 → ((j : ℕ) → height_at t j ≡ 0) → (q : Part O) → slice_index_or (parts_of t) 0 q ≡ t.start
+  first-part t room heights q = part-slot t 0 q (omega (arith, room)) ∙ ap (slot_of t) (heights 0)
+
+  pub start-track : (t : Track O) → t.start ≡ record { op = o; labels = ls } → length (parts_of t) ≡ n + 1 → ((j : ℕ) → height_at t j ≡ 0) → (fs : List Level) → IsTrack depth_of tuples n 1 fs t
   unfolding p start-part
-  start-track t at_start room parts fs = record {
+  start-track t at_start room heights fs = record {
     room = room;
+    counted = λ j low _. let first : 0 ≡ j = omega (arith, low) in subst (λ j. IsCounted j t) first (record {
+      rises = λ i le. let low = heights i in omega (arith, low);
+      few = λ q. let low = heights 0 in let short = labels-short t.start.labels in let n = ap (λ x. length (labels_of x.labels)) (first-part t room heights q) in omega (arith, low, short, n);
+    });
     below = subst (AllByRecursion (λ l. l < n)) (sym (ap (λ q. labels_of q.labels) at_start ∙ labels)) start.below;
     left = λ j q low _. let first : 0 ≡ j = omega (arith, low) in
-        subst (λ j. IsLeft depth_of tuples (take j fs) t.start (slice_index_or t.parts.items j q)) first
-        (subst (λ x. IsLeft depth_of tuples [] t.start x) (sym (parts 0 q (omega arith)))
+        subst (λ j. IsLeft depth_of tuples (take j fs) t.start (slice_index_or (parts_of t) j q)) first
+        (subst (λ x. IsLeft depth_of tuples [] t.start x) (sym (first-part t room heights q ∙ at_start))
         (subst (λ x. IsLeft depth_of tuples [] x (record { op = o; labels = ls })) (sym at_start)
         (record { part = start-part; labels = refl; image = λ a _. set-whole a (labels_of ls) (tuples o) (subst (λ d. HasDepth d (tuples o)) start-deep (all-deep o)) start-some })));
   }

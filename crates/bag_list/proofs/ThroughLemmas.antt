@@ -17,11 +17,13 @@ use Rattle.bag_list.specs.declared.track.Part.{Part}
 use Rattle.bag_list.specs.declared.track.Track.{Track}
 use Rattle.bag_list.specs.Labels.{labels_of}
 use Rattle.bag_list.specs.Levels.{AreBelow, lesser_of}
-use Rattle.bag_list.specs.Operands.{IsKeptTo}
-use Rattle.bag_list.specs.Tracks.{AllAdmitAt, AllHold, AreParts, AreSameTo, HasSolutionAt, IsFixed, IsPart, IsSameTo, part_at, part_set}
+use Rattle.bag_list.specs.Joins.{AllHaveRoom, HasRoom}
+use Rattle.bag_list.specs.Operands.{AreReady, IsKeptTo}
+use Rattle.bag_list.specs.Tracks.{AllAdmitAt, AllHold, AreParts, AreSameTo, HasSolutionAt, IsFixed, IsPart, IsSameTo, part_at, part_set, parts_of}
 use Rattle.bag_list.proofs.Images.{image-admits, is_at-at}
 use Rattle.bag_list.proofs.PartSets.{part-admits}
 use Rattle.bag_list.proofs.MemberLemmas.{at-there}
+use Rattle.bag_list.proofs.CountedLemmas.{counted-same}
 use Rattle.bag_list.proofs.TrackLemmas.{part-deep}
 
 -- b is there, and not above k
@@ -79,7 +81,7 @@ module _ {O : Type 0} (old now : List (Track O)) (depth : ℕ) (n_now : length n
   pub parts-same : (P : Part O → Type 0) → ((i : ℕ) (t : Track O) (p : Part O) → i < length old → P (part_at old depth i t p)) → (i : ℕ) (t : Track O) (p : Part O) → i < length now → P (part_at now depth i t p)
   parts-same P each i t p lt = let lt_old : i < length old = omega (arith, lt, n_now) in subst P (sym (part-same i t p lt_old)) (each i t p lt_old)
 
-  pub room-same : (d : ℕ) → ((i : ℕ) (t : Track O) → i < length old → d < length (slice_index_or old i t).parts.items) → (i : ℕ) (t : Track O) → i < length now → d < length (slice_index_or now i t).parts.items
+  pub room-same : (d : ℕ) → ((i : ℕ) (t : Track O) → i < length old → d < length (parts_of (slice_index_or old i t))) → (i : ℕ) (t : Track O) → i < length now → d < length (parts_of (slice_index_or now i t))
   room-same d room i t lt =
       let lt_old : i < length old = omega (arith, lt, n_now) in
       let alike = (same i t lt_old).room in
@@ -99,6 +101,7 @@ pub same-twice : {O : Type 0} (depth : ℕ) (x y z : Track O) → IsSameTo depth
 same-twice depth x y z first second = record {
   start = second.start ∙ first.start;
   room = second.room ∙ first.room;
+  heights = λ j le. second.heights j le ∙ first.heights j le;
   parts = λ j p le. second.parts j p le ∙ first.parts j p le;
 }
 
@@ -111,11 +114,27 @@ sames-twice depth x y z first second = record {
 pub same-before : {O : Type 0} (depth d : ℕ) (x y : List (Track O)) → d ≤ depth → AreSameTo depth x y → AreSameTo d x y
 same-before depth d x y le same = record {
   number = same.number;
-  each = λ i t lt. let s = same.each i t lt in record { start = s.start; room = s.room; parts = λ j p low. s.parts j p (omega (arith, low, le)) };
+  each = λ i t lt. let s = same.each i t lt in record { start = s.start; room = s.room; heights = λ j low. s.heights j (omega (arith, low, le)); parts = λ j p low. s.parts j p (omega (arith, low, le)) };
 }
 
 pub same-itself : {O : Type 0} (depth : ℕ) (tracks : List (Track O)) → AreSameTo depth tracks tracks
-same-itself depth tracks = record { number = refl; each = λ i t lt. record { start = refl; room = refl; parts = λ _ _ _. refl } }
+same-itself depth tracks = record { number = refl; each = λ i t lt. record { start = refl; room = refl; heights = λ _ _. refl; parts = λ _ _ _. refl } }
+
+-- what can be entered, with other patterns that have the same parts
+pub ready-same : {O : Type 0} (depth_of : O → ℕ) (tuples : O → IdSet) (depth : ℕ) (s t : Operands O) → AreReady depth_of tuples depth s → AreSameTo depth s.tracks.items t.tracks.items → t.joins ≡ s.joins → t.other ≡ s.other → t.behind ≡ s.behind → AreReady depth_of tuples depth t
+ready-same depth_of tuples depth s t ready same joins other behind = record {
+  low = ready.low;
+  within = subst (λ js. depth < length js.items) (sym joins) ready.within;
+  room = record {
+    number = refl;
+    joins = subst (λ js. AllHaveRoom (length t.tracks.items) (length js.items) js.items) (sym joins) (subst (λ n. AllHaveRoom n (length s.joins.items) s.joins.items) (sym same.number) ready.room.joins);
+    other = subst (HasRoom (length t.tracks.items)) (sym other) (subst (λ n. HasRoom n s.other) (sym same.number) ready.room.other);
+    behind = subst (HasRoom (length t.tracks.items)) (sym behind) (subst (λ n. HasRoom n s.behind) (sym same.number) ready.room.behind);
+  };
+  roomy = room-same s.tracks.items t.tracks.items depth same.number same.each (depth + 1) ready.roomy;
+  counted = λ i x lt. let lt_old : i < length s.tracks.items = let n = same.number in omega (arith, lt, n) in counted-same depth _ _ (same.each i x lt_old) depth (omega arith) (ready.counted i x lt_old);
+  parts = parts-same s.tracks.items t.tracks.items depth same.number same.each (IsPart depth_of tuples) ready.parts;
+}
 
 pub kept-twice : {O : Type 0} (depth_of : O → ℕ) (tuples : O → IdSet) (depth : ℕ) (x y z : Operands O) → AreSameTo depth x.tracks.items y.tracks.items → y.joins ≡ x.joins → IsKeptTo depth_of tuples depth y z → IsKeptTo depth_of tuples depth x z
 kept-twice depth_of tuples depth x y z same joins kept = record { same = sames-twice depth _ _ _ same kept.same; joins = kept.joins ∙ joins; ready = kept.ready }

@@ -16,7 +16,7 @@ use Rattle.bag_list.specs.declared.labels.Labels.{Labels}
 use Rattle.bag_list.specs.declared.track.Part.{Part}
 use Rattle.bag_list.specs.declared.track.Track.{Track}
 use Rattle.bag_list.specs.Labels.{placed, labels_of, mask_of, without}
-use Rattle.bag_list.specs.Tracks.{AdmitsAt, IsFixed, IsPart, IsSameTo, part_at, part_set, set_with}
+use Rattle.bag_list.specs.Tracks.{AdmitsAt, IsCounted, IsFixed, IsPart, IsSameTo, part_at, part_set, parts_of, set_with}
 use Rattle.std.proofs.lemmas.List.{get_or_append_left, get_or_default, get_or_push, get_or-set_same, get_or-set_other, take_more_set, length-append, length-take-le}
 use Rattle.std.specs.Prelude.{slice_set}
 use native.Mathlib.Decide.{dec_lt}
@@ -40,6 +40,13 @@ labels-short ls = placed-short ls.0 ls.1 ls.2
 module _ {O : Type 0} (depth_of : O → ℕ) (tuples : O → IdSet) (deep : (o : O) → HasDepth (depth_of o) (tuples o)) where
   pub part-deep : (p : Part O) → IsPart depth_of tuples p → HasDepth (length (labels_of p.labels)) (part_set tuples p)
   part-deep p is = set-deep (labels_of p.labels) (tuples p.op) (λ some. subst (λ d. HasDepth d (tuples p.op)) (is.deep some) (deep p.op))
+
+  -- the mask of a label fits the operand
+  pub part-fits : (l m : ℕ) (p : Part O) → IsPart depth_of tuples p → m ≡ mask_of l (labels_of p.labels) → 1 ≤ m → FitsDepth m (depth_of p.op)
+  part-fits l m p is mask there =
+      let some : 1 ≤ mask_of l (labels_of p.labels) = omega (arith, mask, there) in
+      subst (FitsDepth m) (sym (is.deep (mask-long l (labels_of p.labels) some)))
+      (subst (λ i. FitsDepth i (length (labels_of p.labels))) (sym mask) (mask-fits l (labels_of p.labels) some))
 
   -- a pattern without the label
   pub fixed-nowhere : (l k : ℕ) (p : Part O) → IsPart depth_of tuples p → mask_of l (labels_of p.labels) ≡ 0 → IsFixed depth_of tuples l k p p
@@ -88,6 +95,7 @@ module _ {O : Type 0} (depth_of : O → ℕ) (tuples : O → IdSet) (deep : (o :
 pub record AreEntered {O : Type 0} (depth_of : O → ℕ) (tuples : O → IdSet) (depth l k : ℕ) (old now : List (Track O)) (i : ℕ) : Type 0 where
   pub same : (j : ℕ) (t : Track O) → j < i → IsSameTo depth (slice_index_or old j t) (slice_index_or now j t)
   pub entered : (j : ℕ) (t : Track O) (p : Part O) → j < i → IsFixed depth_of tuples l k (part_at old depth j t p) (part_at now (depth + 1) j t p)
+  pub counted : (j : ℕ) (t : Track O) → j < i → IsCounted (depth + 1) (slice_index_or now j t)
   pub rest : (j : ℕ) (t : Track O) → i ≤ j → slice_index_or now j t ≡ slice_index_or old j t
 
 -- of the first i patterns, those that have the label were taken
@@ -100,10 +108,10 @@ pub record AreGathered {O : Type 0} (depth_of : O → ℕ) (tuples : O → IdSet
 
 module _ {O : Type 0} where
   -- which default is asked for makes no difference within the lists
-  pub part-is : (tracks : List (Track O)) (depth i : ℕ) (x : Track O) (q : Part O) → i < length tracks → x ≡ slice_index_or tracks i x → depth < length x.parts.items → q ≡ slice_index_or x.parts.items depth q → (t : Track O) (p : Part O) → part_at tracks depth i t p ≡ q
+  pub part-is : (tracks : List (Track O)) (depth i : ℕ) (x : Track O) (q : Part O) → i < length tracks → x ≡ slice_index_or tracks i x → depth < length (parts_of x) → q ≡ slice_index_or (parts_of x) depth q → (t : Track O) (p : Part O) → part_at tracks depth i t p ≡ q
   part-is tracks depth i x q lt is low at t p =
-      ap (λ y. slice_index_or y.parts.items depth p) (get_or_default tracks i t x lt ∙ sym is)
-      ∙ get_or_default x.parts.items depth p q low ∙ sym at
+      ap (λ y. slice_index_or (parts_of y) depth p) (get_or_default tracks i t x lt ∙ sym is)
+      ∙ get_or_default (parts_of x) depth p q low ∙ sym at
 
 module _ {O : Type 0} (depth_of : O → ℕ) (tuples : O → IdSet) (depth l k : ℕ) (old now : List (Track O)) (i : ℕ) (x y : Track O) (same_length : length now ≡ length old) (lt : i < length now) (is : x ≡ slice_index_or now i x) (before : AreEntered depth_of tuples depth l k old now i) where
   x-old : (t : Track O) → x ≡ slice_index_or old i t
@@ -116,7 +124,7 @@ module _ {O : Type 0} (depth_of : O → ℕ) (tuples : O → IdSet) (depth l k :
     | no high ↦ elim (dec_lt i j) as (λ _. IsSameTo depth (slice_index_or old j t) (slice_index_or (slice_set now i y) j t)) [
       | yes above ↦
           subst (IsSameTo depth (slice_index_or old j t)) (sym (get_or-set_other now i j y t (λ e. omega (arith, e, above)) ∙ before.rest j t (omega (arith, above))))
-          (record { start = refl; room = refl; parts = λ _ _ _. refl })
+          (record { start = refl; room = refl; heights = λ _ _. refl; parts = λ _ _ _. refl })
       | no low ↦
           let here : i ≡ j = omega (arith, high, low) in
           subst (λ m. IsSameTo depth (slice_index_or old m t) (slice_index_or (slice_set now i y) m t)) here
@@ -125,14 +133,17 @@ module _ {O : Type 0} (depth_of : O → ℕ) (tuples : O → IdSet) (depth l k :
     ]
   ]
 
-  pub entered_more : IsSameTo depth x y → ((p : Part O) → IsFixed depth_of tuples l k (slice_index_or x.parts.items depth p) (slice_index_or y.parts.items (depth + 1) p)) → AreEntered depth_of tuples depth l k old (slice_set now i y) (i + 1)
-  entered_more same fixed = record {
+  pub entered_more : IsSameTo depth x y → IsCounted (depth + 1) y → ((p : Part O) → IsFixed depth_of tuples l k (slice_index_or (parts_of x) depth p) (slice_index_or (parts_of y) (depth + 1) p)) → AreEntered depth_of tuples depth l k old (slice_set now i y) (i + 1)
+  entered_more same counted fixed = record {
     same = λ j t _. same_more same j t;
     entered = λ j t p. to_next i (λ j. IsFixed depth_of tuples l k (part_at old depth j t p) (part_at (slice_set now i y) (depth + 1) j t p))
-        (λ j low. subst (λ z. IsFixed depth_of tuples l k (part_at old depth j t p) (slice_index_or z.parts.items (depth + 1) p)) (sym (get_or-set_other now i j y t (λ e. omega (arith, e, low)))) (before.entered j t p low))
-        (subst (λ z. IsFixed depth_of tuples l k (slice_index_or z.parts.items depth p) (slice_index_or (slice_index_or (slice_set now i y) i t).parts.items (depth + 1) p)) (x-old t)
-        (subst (λ z. IsFixed depth_of tuples l k (slice_index_or x.parts.items depth p) (slice_index_or z.parts.items (depth + 1) p)) (sym (get_or-set_same now i y t lt)) (fixed p)))
+        (λ j low. subst (λ z. IsFixed depth_of tuples l k (part_at old depth j t p) (slice_index_or (parts_of z) (depth + 1) p)) (sym (get_or-set_other now i j y t (λ e. omega (arith, e, low)))) (before.entered j t p low))
+        (subst (λ z. IsFixed depth_of tuples l k (slice_index_or (parts_of z) depth p) (slice_index_or (parts_of (slice_index_or (slice_set now i y) i t)) (depth + 1) p)) (x-old t)
+        (subst (λ z. IsFixed depth_of tuples l k (slice_index_or (parts_of x) depth p) (slice_index_or (parts_of z) (depth + 1) p)) (sym (get_or-set_same now i y t lt)) (fixed p)))
         j;
+    counted = λ j t. to_next i (λ j. IsCounted (depth + 1) (slice_index_or (slice_set now i y) j t))
+        (λ j low. subst (IsCounted (depth + 1)) (sym (get_or-set_other now i j y t (λ e. omega (arith, e, low)))) (before.counted j t low))
+        (subst (IsCounted (depth + 1)) (sym (get_or-set_same now i y t lt)) counted) j;
     rest = λ j t le. get_or-set_other now i j y t (λ e. omega (arith, e, le)) ∙ before.rest j t (omega (arith, le));
   }
 

@@ -6,7 +6,7 @@ use Rattle.bag_list.specs.declared.level.Level.{Level}
 use Rattle.bag_list.specs.declared.operands.Operands.{Operands}
 use Rattle.bag_list.specs.declared.track.Track.{Track}
 use Rattle.bag_list.specs.Joins.{AllHaveRoom, HasRoom, IsJoin}
-use Rattle.bag_list.specs.Tracks.{AllAdmitAt, AreFixed, AreParts, AreRoomy, AreSameTo}
+use Rattle.bag_list.specs.Tracks.{AllAdmitAt, AreCounted, AreFixed, AreParts, AreRoomy, AreSameTo}
 
 -- there is room for an operand of each pattern, at each of n levels and for the labels that a key is looked for through
 pub record AreRoom {O : Type 0} (n : ℕ) (s : Operands O) : Type 0 where
@@ -22,6 +22,7 @@ module _ {O : Type 0} (depth_of : O → ℕ) (tuples : O → IdSet) where
     pub within : depth < length s.joins.items
     pub room : AreRoom (length s.joins.items) s
     pub roomy : AreRoomy (depth + 1) s.tracks.items
+    pub counted : AreCounted depth s.tracks.items
     pub parts : AreParts depth_of tuples depth s.tracks.items
 
   -- what so many levels leave stays, and what was gathered for levels
@@ -44,7 +45,7 @@ module _ {O : Type 0} (depth_of : O → ℕ) (tuples : O → IdSet) where
 
   -- the label of the level is fixed at its key
   abbrev pub IsEntered : ℕ → Level → Operands O → Operands O → Type 0
-  IsEntered depth f s t = AreFixed depth_of tuples depth f.label f.key.0 s.tracks.items t.tracks.items
+  IsEntered depth f s t = AreFixed depth_of tuples depth f.label f.key.0 s.tracks.items t.tracks.items × AreCounted (depth + 1) t.tracks.items
 
 -- the others are as before
 abbrev pub AreSameBut : {O : Type 0} → ℕ → List (Join O) → List (Join O) → Type 0

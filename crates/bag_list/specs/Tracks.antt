@@ -1,5 +1,5 @@
 -- What is left of a pattern while labels are fixed.
-use Rattle.std.specs.Prelude.{◌≡◌, ◌≢◌, ℕ, ◌+◌, ◌-◌, ◌^◌, ◌<◌, ◌≤◌, true, List, [], ◌∷◌, length, map, take, slice_index_or, Option, None, Some, IfSome}
+use Rattle.std.specs.Prelude.{◌≡◌, ◌≢◌, ℕ, zero, suc, ◌+◌, ◌-◌, ◌^◌, ◌<◌, ◌≤◌, true, List, [], ◌∷◌, length, map, take, slice_index_or, Option, None, Some, IfSome}
 use Rattle.std.specs.List.{AllByRecursion}
 use Rattle.std.specs.Ordering.{nat_cmp}
 use Rattle.hypertrie_model.specs.IdSets.{IdSet}
@@ -19,19 +19,40 @@ abbrev pub unfixed : List Level → List ℕ → List ℕ
 unfixed [] ls = ls
 unfixed (f ∷ fs) ls = unfixed fs (without f.label ls)
 
+-- what is left of a pattern once so many of its labels are fixed
+abbrev pub slot_of : {O : Type 0} → Track O → ℕ → Part O
+slot_of t zero = t.start
+slot_of t (suc zero) = t.one
+slot_of t (suc (suc zero)) = t.two
+slot_of t (suc (suc (suc h))) = t.three
+
+-- how many of its labels are fixed after so many levels
+abbrev pub height_at : {O : Type 0} → Track O → ℕ → ℕ
+height_at t j = slice_index_or t.heights.items j 0
+
+-- what is left of it after no level, after one, and so on
+unfoldable pub parts_of : {O : Type 0} → Track O → List (Part O)
+parts_of t = map (slot_of t) t.heights.items
+
+-- no level up to this one has more of its labels fixed, and with those that are left there they are three at most
+pub record IsCounted {O : Type 0} (depth : ℕ) (t : Track O) : Type 0 where
+  pub rises : (j : ℕ) → j ≤ depth → height_at t j ≤ height_at t depth
+  pub few : (p : Part O) → height_at t depth + length (labels_of (slice_index_or (parts_of t) depth p).labels) ≤ 3
+
+-- the same of each pattern
+abbrev pub AreCounted : {O : Type 0} → ℕ → List (Track O) → Type 0
+AreCounted depth tracks = (i : ℕ) (t : Track _) → i < length tracks → IsCounted depth (slice_index_or tracks i t)
+
 -- what is left of a pattern after so many levels
 abbrev pub part_at : {O : Type 0} → List (Track O) → ℕ → ℕ → Track O → Part O → Part O
-part_at tracks depth i t p = slice_index_or (slice_index_or tracks i t).parts.items depth p
-
--- each of the first n parts is p
-abbrev pub AllPartsAre : {O : Type 0} → Part O → ℕ → Track O → Type 0
-AllPartsAre p n t = (j : ℕ) (q : Part _) → j < n → slice_index_or t.parts.items j q ≡ p
+part_at tracks depth i t p = slice_index_or (parts_of (slice_index_or tracks i t)) depth p
 
 -- t has the same start as s, and the same parts up to this depth
 pub record IsSameTo {O : Type 0} (depth : ℕ) (s t : Track O) : Type 0 where
   pub start : t.start ≡ s.start
-  pub room : length t.parts.items ≡ length s.parts.items
-  pub parts : (j : ℕ) (p : Part O) → j ≤ depth → slice_index_or t.parts.items j p ≡ slice_index_or s.parts.items j p
+  pub room : length (parts_of t) ≡ length (parts_of s)
+  pub heights : (j : ℕ) → j ≤ depth → height_at t j ≡ height_at s j
+  pub parts : (j : ℕ) (p : Part O) → j ≤ depth → slice_index_or (parts_of t) j p ≡ slice_index_or (parts_of s) j p
 
 -- the patterns are as many, and each is the same up to this depth
 pub record AreSameTo {O : Type 0} (depth : ℕ) (old now : List (Track O)) : Type 0 where
@@ -40,7 +61,7 @@ pub record AreSameTo {O : Type 0} (depth : ℕ) (old now : List (Track O)) : Typ
 
 -- each pattern has a place for what is left of it after so many levels
 abbrev pub AreRoomy : {O : Type 0} → ℕ → List (Track O) → Type 0
-AreRoomy depth tracks = (i : ℕ) (t : Track _) → i < length tracks → depth < length (slice_index_or tracks i t).parts.items
+AreRoomy depth tracks = (i : ℕ) (t : Track _) → i < length tracks → depth < length (parts_of (slice_index_or tracks i t))
 
 -- some start has no operand
 abbrev pub HasEmpty : {O : Type 0} → List (Start O) → Type 0
@@ -69,7 +90,7 @@ module _ {O : Type 0} (tuples : O → IdSet) where
 
   -- the same of what so many levels leave of a pattern
   abbrev pub AdmitsIn : ℕ → ℕ → Track O → ℕ → Type 0
-  AdmitsIn depth l t k = (p : Part O) → AdmitsAt l (slice_index_or t.parts.items depth p) k
+  AdmitsIn depth l t k = (p : Part O) → AdmitsAt l (slice_index_or (parts_of t) depth p) k
 
   -- each pattern that has the label l after so many levels admits k there
   abbrev pub AllAdmitAt : List (Track O) → ℕ → ℕ → ℕ → Type 0
@@ -83,7 +104,7 @@ module _ {O : Type 0} (tuples : O → IdSet) where
 
   -- the same of a pattern before a label is fixed, and of some pattern
   abbrev pub LacksKeyIn : Track O → Type 0
-  LacksKeyIn t = (p : Part O) → LacksKey (slice_index_or t.parts.items 0 p)
+  LacksKeyIn t = (p : Part O) → LacksKey (slice_index_or (parts_of t) 0 p)
 
   abbrev pub SomeLacksKey : List (Track O) → Type 0
   SomeLacksKey tracks = (i : ℕ) × (i < length tracks) × ((t : Track O) → LacksKeyIn (slice_index_or tracks i t))
@@ -120,7 +141,7 @@ module _ {O : Type 0} (depth_of : O → ℕ) (tuples : O → IdSet) where
 
   -- something is left of the pattern after so many levels
   abbrev pub IsPartIn : ℕ → Track O → Type 0
-  IsPartIn depth t = (p : Part O) → IsPart (slice_index_or t.parts.items depth p)
+  IsPartIn depth t = (p : Part O) → IsPart (slice_index_or (parts_of t) depth p)
 
   -- something is left of each pattern after so many levels
   abbrev pub AreParts : ℕ → List (Track O) → Type 0
@@ -134,7 +155,7 @@ module _ {O : Type 0} (depth_of : O → ℕ) (tuples : O → IdSet) where
 
   -- t has one level deeper what is left of s where the label l has the key k
   abbrev pub IsFixedIn : ℕ → ℕ → ℕ → Track O → Track O → Type 0
-  IsFixedIn depth l k s t = (p : Part O) → IsFixed l k (slice_index_or s.parts.items depth p) (slice_index_or t.parts.items (depth + 1) p)
+  IsFixedIn depth l k s t = (p : Part O) → IsFixed l k (slice_index_or (parts_of s) depth p) (slice_index_or (parts_of t) (depth + 1) p)
 
   -- now is what is left of each pattern one level deeper, where the label l has the key k
   abbrev pub AreFixed : ℕ → ℕ → ℕ → List (Track O) → List (Track O) → Type 0
@@ -148,9 +169,10 @@ module _ {O : Type 0} (depth_of : O → ℕ) (tuples : O → IdSet) where
 
   -- before each of the first m levels, and n in all, there stands what the levels before it leave; what all n leave is nowhere
   pub record IsTrack (n m : ℕ) (fs : List Level) (t : Track O) : Type 0 where
-    pub room : length t.parts.items ≡ n + 1
+    pub room : length (parts_of t) ≡ n + 1
     pub below : AllByRecursion (λ l. l < n) (labels_of t.start.labels)
-    pub left : (j : ℕ) (p : Part O) → j < m → j ≤ n - 1 → IsLeft (take j fs) t.start (slice_index_or t.parts.items j p)
+    pub counted : (j : ℕ) → j < m → j ≤ n - 1 → IsCounted j t
+    pub left : (j : ℕ) (p : Part O) → j < m → j ≤ n - 1 → IsLeft (take j fs) t.start (slice_index_or (parts_of t) j p)
 
   -- the operand, if there is one, has a position for each label, and some tuple; the labels are below n
   pub record IsStart (n : ℕ) (s : Start O) : Type 0 where

@@ -1,11 +1,11 @@
 //! The operands that have a label.
-ghost use Rattle.std.specs.Prelude.{◌≡◌, ◌<◌, ◌≤◌, ℕ, IfOk, length, take};
+ghost use Rattle.std.specs.Prelude.{◌≡◌, ◌<◌, ◌≤◌, ℕ, IfOk, length, slice_set, take};
 ghost use Rattle.key_join.specs.Common.{AllFit};
 ghost use Rattle.key_join.specs.Least.{IsLeastFrom};
 ghost use Rattle.bag_list.specs.Joins.{AllHaveRoom, AllJoined, AllTaken, HasRoom, IsJoin, IsJoinable};
 ghost use Rattle.bag_list.specs.Tracks.{AllAdmitAt, AreParts, AreRoomy};
 
-use crate::track::Track;
+use crate::track::{Track, part_of};
 use key_join::next_common;
 use std::alloc::Global;
 use std::sync::ledger::Ledger;
@@ -96,16 +96,25 @@ fn gather<O: Operand>(
 {
     let mut count = 0;
     for i in 0..tracks.len() {
-        let track = &tracks[i];
-        let part = track.parts[depth];
+        let part = part_of(tracks, depth, i);
         let mask = part.labels.mask(label);
         if mask.0 > 0 {
-            ops[count] = part.op;
-            masks[count] = mask;
+            put(ops, masks, count, part.op, mask);
             count += 1;
         }
     }
     count
+}
+
+/// Puts an operand and its mask at a place.
+fn put<O: Operand>(ops: &mut [O], masks: &mut [Mask], at: usize, op: O, mask: Mask)
+    requires ops { at < length ops.old }
+    requires masks { at < length masks.old }
+    ensures ops { ops.new ≡ slice_set ops.old at op }
+    ensures masks { masks.new ≡ slice_set masks.old at mask }
+{
+    ops[at] = op;
+    masks[at] = mask;
 }
 
 /// The operand of each pattern.

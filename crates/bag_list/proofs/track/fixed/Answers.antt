@@ -1,4 +1,4 @@
-use Rattle.std.proofs.Common.{◌≡◌, true, false, sym, ◌∙◌, arith}
+use Rattle.std.proofs.Common.{◌≡◌, true, false, sym, ◌∙◌}
 use Rattle.bag_list.proofs.PartSets.{long-there}
 use Rattle.bag_list.proofs.TrackLemmas.{fixed-last, fixed-slice}
 use Rattle.bag_list.proofs.track.fixed.Goals as goal
@@ -10,7 +10,7 @@ returns-then-is_none g c =
 
 pub returns : goal.returns
 returns g c =
-    fixed-slice g.O.Operand.depth_of g.O.Operand.tuples g.met.O.Operand.deep c.args.label c.args.key.0 c.mask-mask.result.0 c.args.part c.in-Some.op c.without-labels.result c.requires.part
-    c.mask-mask.ensures (omega (arith, c.if-mask-eq0.false)) c.without-labels.ensures
+    fixed-slice g.O.Operand.depth_of g.O.Operand.tuples g.met.O.Operand.deep c.args.label c.args.key.0 c.args.mask.0 c.args.part c.in-Some.op c.without-labels.result c.requires.part
+    c.requires.mask c.requires.there c.without-labels.ensures
     (long-there _ (λ e. let t : true ≡ false = sym (c.is_none.ensures.1 e) ∙ c.if-is_none.false in cc))
     c.in-Some.ensures.some (λ e. let t : true ≡ false = c.in-Some.ensures.none.1 e in cc) c.in-Some.ensures.depth

@@ -13,7 +13,7 @@ returns-clause-least g c n k s here le =
     let depth = c.args.sought.depth in
     let label = c.args.sought.label in
     let same = c.enter.ensures.kept.same.number in
-    let fixed = c.enter.ensures.entered in
+    let fixed = c.enter.ensures.entered.0 in
     let join = subst (λ ts. IsJoin depth_of tuples ts (depth + 1) label c.gather.new.self) c.deref.ensures.value c.gather.ensures.join in
     (join-least depth_of tuples now (depth + 1) label c.gather.new.self join c.args.sought.from.0 c.next_key.result c.next_key.ensures).least k le
     (holding-admits depth_of tuples g.met.O.Operand.deep now (depth + 1) s.solution label k (λ i t p lt. (fixed i t p (omega (arith, lt, same))).part)

@@ -25,6 +25,7 @@ loop-start-init g c = record {
       behind = c.requires.room.behind;
     };
     roomy = c.requires.roomy;
+    counted = c.requires.counted;
     parts = c.requires.parts;
   };
   join = subst (λ ts. IsJoin g.O.Operand.depth_of g.O.Operand.tuples ts c.args.sought.depth c.args.other c.gather.new.self) c.deref.ensures.value c.gather.ensures.join;

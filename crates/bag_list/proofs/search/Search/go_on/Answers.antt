@@ -125,7 +125,8 @@ returns-in-Some-clause-kept g c =
           (let d = c.requires.deep in omega (arith, d)) refl (ap (λ l. slice_set s.values.items l f.key) c.from.ensures)
           (kept-entered g.O.Operand.depth_of g.O.Operand.tuples (tells s.columns.items s.distinct) s.levels.items s.told mid s.values.items (s.depth - 1) f now true k
           (λ h. ap (λ x. x.label) (c.index.ensures ∙ get_or_default s.levels.items (s.depth - 1) c.index.result.now h within)) c.after.ensures.next (let next = c.after.ensures.next in let most = c.after.ensures.within in omega (arith, next, most)) same_now.number same_now.each
-          (λ _ before. (c.enter_next.ensures.entered (not_last s.depth c.len-in-Some.result (let n = c.len-in-Some.ensures in let d = c.requires.deep in omega (arith, n, long, d, before)))))
+          (λ _ before. (c.enter_next.ensures.entered (not_last s.depth c.len-in-Some.result (let n = c.len-in-Some.ensures in let d = c.requires.deep in omega (arith, n, long, d, before)))).0)
+          (λ _ before. (c.enter_next.ensures.entered (not_last s.depth c.len-in-Some.result (let n = c.len-in-Some.ensures in let d = c.requires.deep in omega (arith, n, long, d, before)))).1)
           (λ whole. parts-same s.operands.tracks.items mid (s.depth - 1) same_mid.number same_mid.each (λ p. AdmitsAt g.O.Operand.tuples f.label p f.key.0)
           ((subst (λ x. AllAdmitAt g.O.Operand.tuples s.operands.tracks.items (s.depth - 1) x.label f.key.0) (ap (λ ls. slice_index_or ls (s.depth - 1) c.index.result.now) c.deref.ensures.value ∙ sym c.index.ensures)
           (c.in-Some.ensures.admitted c.index.result.now)))));

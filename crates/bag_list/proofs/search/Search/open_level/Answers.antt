@@ -8,10 +8,17 @@ use Rattle.bag_list.specs.Operands.{AreRoom}
 use Rattle.bag_list.specs.Search.{AreKept, id_solutions, weight}
 use Rattle.bag_list.specs.Tracks.{rests}
 use Rattle.bag_list.proofs.ComingLemmas.{opened}
-use Rattle.bag_list.proofs.JoinLemmas.{joined-more}
+use Rattle.bag_list.proofs.JoinLemmas.{joined-more, ready-to-open}
 use Rattle.bag_list.proofs.SearchLemmas.{opened-at, opened-before, chosen-label, chosen-small, kept-opened, length-opened, opened_levels, opened-more}
 use Rattle.bag_list.proofs.WeightLemmas.{opened-less}
 use Rattle.bag_list.proofs.search.Search.open_level.Goals as goal
+
+pub open-requires : goal.open-requires
+open-requires g c =
+    let s = c.args.self.now in
+    ready-to-open g.O.Operand.depth_of g.O.Operand.tuples (tells s.columns.items s.distinct) s.levels.items s.depth s.told s.operands s.values.items
+    (subst (λ b. AreKept g.O.Operand.depth_of g.O.Operand.tuples (tells s.columns.items s.distinct) s.levels.items s.depth b s.told s.operands.tracks.items s.values.items) c.requires.fresh c.requires.kept.kept)
+    c.requires.deeper c.requires.kept.few c.requires.kept.room
 
 pub index-requires-2 : goal.index-requires-2
 index-requires-2 g c =

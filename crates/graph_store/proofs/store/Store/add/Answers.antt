@@ -18,7 +18,7 @@ intern_triple-requires g c =
     let s : State = record { dict = i.dict; tables = i.ctx; root = i.root; max = i.max } in
     let b : Staging = record { triples = c.staged.inside.trips; added = numbers c.staged.inside.added.items } in
     let f : Fits s b = fits_back c.args.self.now s c.args.staged.now b c.self.view_is c.staged.view_is c.requires.fits in
-    let few = terms_few i.dict i.ctx i.root i.max b c.self.invariant f c.len.ensures.one in
+    let few = terms_few i.dict i.ctx i.root i.max b c.self.invariant f c.is_one_to_one.ensures in
     record { room = omega (arith, few) }
 
 pub of-requires-clause-there : goal.of-requires-clause-there

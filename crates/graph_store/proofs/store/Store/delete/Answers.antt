@@ -24,7 +24,7 @@ returns-in_err-take_out-clause-ticks g c =
     let B : IdSet = c.taken.inside.trips in
     let settled : HasExactly i.dict (terms_of (graph_of i.dict (root_set i.ctx i.root))) = subst (λ s. HasExactly s.dict (terms_of (graph s))) (sym c.self.view_is) c.requires.settled in
     let there : IsChange false (root_set i.ctx i.root) B = subst (λ s. IsChange false (triples_of s) B) (sym c.self.view_is) (subst (λ T. IsChange false (triples_of c.args.self.now) T) (sym c.taken.view_is) c.requires.there) in
-    let marked : set.len (marked_graph c.args.self.now c.args.taken) ≡ set.len B = sym (λ j. set.len (marked_graph (c.self.view_is j) (c.taken.view_is j))) ∙ len-graph_of i.dict c.len.ensures.one B (marked_known i.dict i.ctx i.root i.max B c.self.invariant c.len.ensures.one settled there) in
+    let marked : set.len (marked_graph c.args.self.now c.args.taken) ≡ set.len B = sym (λ j. set.len (marked_graph (c.self.view_is j) (c.taken.view_is j))) ∙ len-graph_of i.dict c.is_one_to_one.ensures B (marked_known i.dict i.ctx i.root i.max B c.self.invariant c.is_one_to_one.ensures settled there) in
     let batch = ap set.len (ap (set_of_entries trip_tuple) c.deref-2.ensures.value ∙ c.in_ok-batch.ensures.set) in
     omega (arith, c.take_out.ensures.ticks, marked, batch)
 
@@ -53,7 +53,7 @@ of-requires-clause-known g c =
     let forgets : Forgets i.dict new ids (IsUsed (set.difference (root_set i.ctx i.root) B)) =
     subst (λ K. Forgets i.dict new ids (IsUsed K)) (operand_set c.tables.result.now q c.of-left.result c.of-left.ensures.none c.of-left.ensures.set ∙ ap (λ t. root_set t q) c.tables.ensures.same ∙ left)
     (subst (λ l. Forgets i.dict new (numbers l) (IsUsed (set_in sub_set c.of-left.result))) c.deref-3.ensures.value c.forget.ensures) in
-    (deleted_sound i.dict i.ctx i.root i.max B c.self.invariant c.len.ensures.one settled there ids all new forgets u q c.take_out.ensures.only left).known
+    (deleted_sound i.dict i.ctx i.root i.max B c.self.invariant c.is_one_to_one.ensures settled there ids all new forgets u q c.take_out.ensures.only left).known
 
 pub invariant_of-self-2 : goal.invariant_of-self-2
 invariant_of-self-2 g c =
@@ -71,7 +71,7 @@ invariant_of-self-2 g c =
     let forgets : Forgets i.dict new ids (IsUsed (set.difference (root_set i.ctx i.root) B)) =
     subst (λ K. Forgets i.dict new ids (IsUsed K)) (operand_set c.tables.result.now q c.of-left.result c.of-left.ensures.none c.of-left.ensures.set ∙ ap (λ t. root_set t q) c.tables.ensures.same ∙ left)
     (subst (λ l. Forgets i.dict new (numbers l) (IsUsed (set_in sub_set c.of-left.result))) c.deref-3.ensures.value c.forget.ensures) in
-    deleted_sound i.dict i.ctx i.root i.max B c.self.invariant c.len.ensures.one settled there ids all new forgets u q c.take_out.ensures.only left
+    deleted_sound i.dict i.ctx i.root i.max B c.self.invariant c.is_one_to_one.ensures settled there ids all new forgets u q c.take_out.ensures.only left
 
 pub returns-clause-graph : goal.returns-clause-graph
 returns-clause-graph g c =
@@ -89,7 +89,7 @@ returns-clause-graph g c =
     let forgets : Forgets i.dict new ids (IsUsed (set.difference (root_set i.ctx i.root) B)) =
     subst (λ K. Forgets i.dict new ids (IsUsed K)) (operand_set c.tables.result.now q c.of-left.result c.of-left.ensures.none c.of-left.ensures.set ∙ ap (λ t. root_set t q) c.tables.ensures.same ∙ left)
     (subst (λ l. Forgets i.dict new (numbers l) (IsUsed (set_in sub_set c.of-left.result))) c.deref-3.ensures.value c.forget.ensures) in
-    deleted_graph i.dict i.ctx i.root i.max B c.self.invariant c.len.ensures.one settled there ids all new forgets u q c.take_out.ensures.only left
+    deleted_graph i.dict i.ctx i.root i.max B c.self.invariant c.is_one_to_one.ensures settled there ids all new forgets u q c.take_out.ensures.only left
     ∙ (λ j. set.difference (graph (c.self.view_is j)) (marked_graph (c.self.view_is j) (c.taken.view_is j)))
 
 pub returns-clause-changed : goal.returns-clause-changed
@@ -98,8 +98,8 @@ returns-clause-changed g c =
     let B : IdSet = c.taken.inside.trips in
     let settled : HasExactly i.dict (terms_of (graph_of i.dict (root_set i.ctx i.root))) = subst (λ s. HasExactly s.dict (terms_of (graph s))) (sym c.self.view_is) c.requires.settled in
     let there : IsChange false (root_set i.ctx i.root) B = subst (λ s. IsChange false (triples_of s) B) (sym c.self.view_is) (subst (λ T. IsChange false (triples_of c.args.self.now) T) (sym c.taken.view_is) c.requires.there) in
-    let marked : set.len (marked_graph c.args.self.now c.args.taken) ≡ set.len B = sym (λ j. set.len (marked_graph (c.self.view_is j) (c.taken.view_is j))) ∙ len-graph_of i.dict c.len.ensures.one B (marked_known i.dict i.ctx i.root i.max B c.self.invariant c.len.ensures.one settled there) in
-    let items : c.len-2.result ≡ length c.in_ok-batch.batch.items = search rules in
+    let marked : set.len (marked_graph c.args.self.now c.args.taken) ≡ set.len B = sym (λ j. set.len (marked_graph (c.self.view_is j) (c.taken.view_is j))) ∙ len-graph_of i.dict c.is_one_to_one.ensures B (marked_known i.dict i.ctx i.root i.max B c.self.invariant c.is_one_to_one.ensures settled there) in
+    let items : c.len.result ≡ length c.in_ok-batch.batch.items = search rules in
     items ∙ sym c.in_ok-batch.ensures.once ∙ ap set.len c.in_ok-batch.ensures.set ∙ sym marked
 
 pub returns-clause-now : goal.returns-clause-now
@@ -118,10 +118,10 @@ returns-clause-now g c =
     let forgets : Forgets i.dict new ids (IsUsed (set.difference (root_set i.ctx i.root) B)) =
     subst (λ K. Forgets i.dict new ids (IsUsed K)) (operand_set c.tables.result.now q c.of-left.result c.of-left.ensures.none c.of-left.ensures.set ∙ ap (λ t. root_set t q) c.tables.ensures.same ∙ left)
     (subst (λ l. Forgets i.dict new (numbers l) (IsUsed (set_in sub_set c.of-left.result))) c.deref-3.ensures.value c.forget.ensures) in
-    c.len-3.ensures ∙ (λ j. set.len (root_set (c.of.ensures.tables j) (c.of.ensures.root j))) ∙ ap set.len left
-    ∙ sym (len-graph_of i.dict c.len.ensures.one (set.difference (root_set i.ctx i.root) B) (known_difference i.dict (root_set i.ctx i.root) B c.self.invariant.known))
-    ∙ ap set.len (rest_graph i.dict i.ctx i.root i.max B c.self.invariant c.len.ensures.one settled there)
-    ∙ sym (ap set.len (deleted_graph i.dict i.ctx i.root i.max B c.self.invariant c.len.ensures.one settled there ids all new forgets u q c.take_out.ensures.only left))
+    c.len-2.ensures ∙ (λ j. set.len (root_set (c.of.ensures.tables j) (c.of.ensures.root j))) ∙ ap set.len left
+    ∙ sym (len-graph_of i.dict c.is_one_to_one.ensures (set.difference (root_set i.ctx i.root) B) (known_difference i.dict (root_set i.ctx i.root) B c.self.invariant.known))
+    ∙ ap set.len (rest_graph i.dict i.ctx i.root i.max B c.self.invariant c.is_one_to_one.ensures settled there)
+    ∙ sym (ap set.len (deleted_graph i.dict i.ctx i.root i.max B c.self.invariant c.is_one_to_one.ensures settled there ids all new forgets u q c.take_out.ensures.only left))
 
 pub returns-clause-settled : goal.returns-clause-settled
 returns-clause-settled g c =
@@ -139,7 +139,7 @@ returns-clause-settled g c =
     let forgets : Forgets i.dict new ids (IsUsed (set.difference (root_set i.ctx i.root) B)) =
     subst (λ K. Forgets i.dict new ids (IsUsed K)) (operand_set c.tables.result.now q c.of-left.result c.of-left.ensures.none c.of-left.ensures.set ∙ ap (λ t. root_set t q) c.tables.ensures.same ∙ left)
     (subst (λ l. Forgets i.dict new (numbers l) (IsUsed (set_in sub_set c.of-left.result))) c.deref-3.ensures.value c.forget.ensures) in
-    deleted_settled i.dict i.ctx i.root i.max B c.self.invariant c.len.ensures.one settled there ids all new forgets u q c.take_out.ensures.only left
+    deleted_settled i.dict i.ctx i.root i.max B c.self.invariant c.is_one_to_one.ensures settled there ids all new forgets u q c.take_out.ensures.only left
 
 pub returns-clause-ticks : goal.returns-clause-ticks
 returns-clause-ticks g c =
@@ -147,6 +147,6 @@ returns-clause-ticks g c =
     let B : IdSet = c.taken.inside.trips in
     let settled : HasExactly i.dict (terms_of (graph_of i.dict (root_set i.ctx i.root))) = subst (λ s. HasExactly s.dict (terms_of (graph s))) (sym c.self.view_is) c.requires.settled in
     let there : IsChange false (root_set i.ctx i.root) B = subst (λ s. IsChange false (triples_of s) B) (sym c.self.view_is) (subst (λ T. IsChange false (triples_of c.args.self.now) T) (sym c.taken.view_is) c.requires.there) in
-    let marked : set.len (marked_graph c.args.self.now c.args.taken) ≡ set.len B = sym (λ j. set.len (marked_graph (c.self.view_is j) (c.taken.view_is j))) ∙ len-graph_of i.dict c.len.ensures.one B (marked_known i.dict i.ctx i.root i.max B c.self.invariant c.len.ensures.one settled there) in
+    let marked : set.len (marked_graph c.args.self.now c.args.taken) ≡ set.len B = sym (λ j. set.len (marked_graph (c.self.view_is j) (c.taken.view_is j))) ∙ len-graph_of i.dict c.is_one_to_one.ensures B (marked_known i.dict i.ctx i.root i.max B c.self.invariant c.is_one_to_one.ensures settled there) in
     let batch = ap set.len (ap (set_of_entries trip_tuple) c.deref-2.ensures.value ∙ c.in_ok-batch.ensures.set) in
     omega (arith, c.take_out.ensures.ticks, marked, batch)

@@ -15,7 +15,7 @@ put_in-requires-clause-few g c =
     let s : State = record { dict = i.dict; tables = i.ctx; root = i.root; max = i.max } in
     let b : Staging = record { triples = c.staged.inside.trips; added = numbers c.staged.inside.added.items } in
     let f : Fits s b = fits_back c.args.self.now s c.args.staged b c.self.view_is c.staged.view_is c.requires in
-    omega (arith, len-graph i.dict i.ctx i.root i.max b c.self.invariant f c.len.ensures.one, len-staged i.dict i.ctx i.root i.max b c.self.invariant f c.len.ensures.one, f.few)
+    omega (arith, len-graph i.dict i.ctx i.root i.max b c.self.invariant f c.is_one_to_one.ensures, len-staged i.dict i.ctx i.root i.max b c.self.invariant f c.is_one_to_one.ensures, f.few)
 
 pub of-requires-clause-there : goal.of-requires-clause-there
 of-requires-clause-there g c = root_there c.put_in.new.context c.put_in.new.root c.put_in.ensures.only
@@ -26,7 +26,7 @@ of-requires-clause-known g c =
     let s : State = record { dict = i.dict; tables = i.ctx; root = i.root; max = i.max } in
     let b : Staging = record { triples = c.staged.inside.trips; added = numbers c.staged.inside.added.items } in
     let f : Fits s b = fits_back c.args.self.now s c.args.staged b c.self.view_is c.staged.view_is c.requires in
-    (put_sound i.dict i.ctx i.root i.max b c.self.invariant f c.put_in.new.context c.put_in.new.root c.put_in.ensures.only c.in-Ok.ensures.set c.len.ensures.one).known
+    (put_sound i.dict i.ctx i.root i.max b c.self.invariant f c.put_in.new.context c.put_in.new.root c.put_in.ensures.only c.in-Ok.ensures.set c.is_one_to_one.ensures).known
 
 pub invariant_of-self : goal.invariant_of-self
 invariant_of-self g c =
@@ -34,7 +34,7 @@ invariant_of-self g c =
     let s : State = record { dict = i.dict; tables = i.ctx; root = i.root; max = i.max } in
     let b : Staging = record { triples = c.staged.inside.trips; added = numbers c.staged.inside.added.items } in
     let f : Fits s b = fits_back c.args.self.now s c.args.staged b c.self.view_is c.staged.view_is c.requires in
-    put_sound i.dict i.ctx i.root i.max b c.self.invariant f c.put_in.new.context c.put_in.new.root c.put_in.ensures.only c.in-Ok.ensures.set c.len.ensures.one
+    put_sound i.dict i.ctx i.root i.max b c.self.invariant f c.put_in.new.context c.put_in.new.root c.put_in.ensures.only c.in-Ok.ensures.set c.is_one_to_one.ensures
 
 pub returns-in-Ok-clause-graph : goal.returns-in-Ok-clause-graph
 returns-in-Ok-clause-graph g c =
@@ -51,7 +51,7 @@ returns-in-Ok-clause-changed g c =
     let s : State = record { dict = i.dict; tables = i.ctx; root = i.root; max = i.max } in
     let b : Staging = record { triples = c.staged.inside.trips; added = numbers c.staged.inside.added.items } in
     let f : Fits s b = fits_back c.args.self.now s c.args.staged b c.self.view_is c.staged.view_is c.requires in
-    c.in-Ok.ensures.changed ∙ sym (len-staged i.dict i.ctx i.root i.max b c.self.invariant f c.len.ensures.one)
+    c.in-Ok.ensures.changed ∙ sym (len-staged i.dict i.ctx i.root i.max b c.self.invariant f c.is_one_to_one.ensures)
     ∙ (λ j. set.len (staged_graph (c.self.view_is j) (c.staged.view_is j)))
 
 pub returns-in-Ok-clause-now : goal.returns-in-Ok-clause-now
@@ -62,8 +62,8 @@ returns-in-Ok-clause-now g c =
     let f : Fits s b = fits_back c.args.self.now s c.args.staged b c.self.view_is c.staged.view_is c.requires in
     let u = c.put_in.new.context in
     let q = c.put_in.new.root in
-    let sound : IsSound i.dict u q i.max = put_sound i.dict i.ctx i.root i.max b c.self.invariant f u q c.put_in.ensures.only c.in-Ok.ensures.set c.len.ensures.one in
-    c.len-in-Ok.ensures ∙ (λ j. set.len (root_set (c.of.ensures.tables j) (c.of.ensures.root j))) ∙ sym (len-graph_of i.dict c.len.ensures.one (root_set u q) sound.known)
+    let sound : IsSound i.dict u q i.max = put_sound i.dict i.ctx i.root i.max b c.self.invariant f u q c.put_in.ensures.only c.in-Ok.ensures.set c.is_one_to_one.ensures in
+    c.len.ensures ∙ (λ j. set.len (root_set (c.of.ensures.tables j) (c.of.ensures.root j))) ∙ sym (len-graph_of i.dict c.is_one_to_one.ensures (root_set u q) sound.known)
 
 pub returns-in-Ok-clause-settled : goal.returns-in-Ok-clause-settled
 returns-in-Ok-clause-settled g c =
@@ -79,7 +79,7 @@ returns-in-Ok-clause-ticks g c =
     let s : State = record { dict = i.dict; tables = i.ctx; root = i.root; max = i.max } in
     let b : Staging = record { triples = c.staged.inside.trips; added = numbers c.staged.inside.added.items } in
     let f : Fits s b = fits_back c.args.self.now s c.args.staged b c.self.view_is c.staged.view_is c.requires in
-    let size : set.len c.staged.inside.trips ≡ set.len (staged_graph c.args.self.now c.args.staged) = sym (len-staged i.dict i.ctx i.root i.max b c.self.invariant f c.len.ensures.one) ∙ (λ j. set.len (staged_graph (c.self.view_is j) (c.staged.view_is j))) in
+    let size : set.len c.staged.inside.trips ≡ set.len (staged_graph c.args.self.now c.args.staged) = sym (len-staged i.dict i.ctx i.root i.max b c.self.invariant f c.is_one_to_one.ensures) ∙ (λ j. set.len (staged_graph (c.self.view_is j) (c.staged.view_is j))) in
     omega (arith, c.put_in.ensures.ticks, size)
 
 pub invariant_of-self-in-Err : goal.invariant_of-self-in-Err
@@ -110,5 +110,5 @@ returns-clause-ticks g c =
     let s : State = record { dict = i.dict; tables = i.ctx; root = i.root; max = i.max } in
     let b : Staging = record { triples = c.staged.inside.trips; added = numbers c.staged.inside.added.items } in
     let f : Fits s b = fits_back c.args.self.now s c.args.staged b c.self.view_is c.staged.view_is c.requires in
-    let size : set.len c.staged.inside.trips ≡ set.len (staged_graph c.args.self.now c.args.staged) = sym (len-staged i.dict i.ctx i.root i.max b c.self.invariant f c.len.ensures.one) ∙ (λ j. set.len (staged_graph (c.self.view_is j) (c.staged.view_is j))) in
+    let size : set.len c.staged.inside.trips ≡ set.len (staged_graph c.args.self.now c.args.staged) = sym (len-staged i.dict i.ctx i.root i.max b c.self.invariant f c.is_one_to_one.ensures) ∙ (λ j. set.len (staged_graph (c.self.view_is j) (c.staged.view_is j))) in
     omega (arith, c.put_in.ensures.ticks, size)

@@ -2,7 +2,8 @@
 # Runs three scripts with each growth of memory refused in turn: the first call for memory, then the second, and so on,
 # until none is left. After each run SHAPE must be the shape of the graph that DUMP shows; the first run after which it
 # isn't ends this with 1. Prints for each script how many growths there were, and in how many runs a command was refused
-# for one; in the others memory ran out before the script was read. It wants a C compiler.
+# for one; in the others memory ran out before the script was read, or the program did without: an index that can't
+# grow keeps its entries where they are, and the answers are those of a whole run. It wants a C compiler.
 #
 # With numbers as words, these growths alone are refused, by `rt try`, which needs no proof and stops at each bad access,
 # but builds the program anew for each of them.
@@ -107,15 +108,16 @@ check() {
 # One script, with each growth refused.
 refuse_each() {
     local script=$1 number status with=0
+    "$program" --sort <"$script" >"$folder/whole"
     for ((number = 1; ; number++)); do
         status=0
         REFUSED=$number LD_PRELOAD=$folder/refuser.so "$program" --sort <"$script" >"$folder/answer" 2>"$folder/errors" 3>"$folder/refused" || status=$?
         [[ -s $folder/refused ]] || break
-        [[ $status -eq 1 || $status -eq 5 ]] || {
+        [[ $status -eq 1 || $status -eq 5 ]] || cmp -s "$folder/answer" "$folder/whole" || {
             echo "growth $number of $script: status $status" >&2
             exit 1
         }
-        [[ $status -eq 5 ]] || with=$((with + 1))
+        [[ $status -ne 1 ]] || with=$((with + 1))
         check "$folder/answer" "$number" "$script"
     done
     printf '%-10s %8d %8d\n' "$(basename "$script")" $((number - 1)) "$with"

@@ -7,6 +7,7 @@ mod KeyNodeLemmas
 mod KeyRowLemmas
 mod PairChanges
 mod RootLemmas
+mod RetainLemmas
 mod HoldLemmas
 mod TripleLemmas
 mod PositionLemmas

@@ -1,6 +1,6 @@
 -- A map changed run by run: the changes that are made are in hand.
-use Rattle.std.specs.Prelude.{◌≡◌, ℕ, ◌<◌, ◌^◌, List, [], ◌∷◌, ◌++◌, map, refl, Option}
-use Rattle.std.proofs.Common.{sym, subst, arith}
+use Rattle.std.specs.Prelude.{◌≡◌, ℕ, ◌+◌, ◌<◌, ◌≤◌, ◌^◌, List, [], ◌∷◌, ◌++◌, map, refl, Option, None}
+use Rattle.std.proofs.Common.{sym, ◌∙◌, ap, subst, arith}
 use Rattle.std.specs.List.Sorted.{IsStrictlySortedBy}
 use Rattle.std.specs.Ordering.{nat_cmp}
 use Rattle.std.specs.Cmp.Lexicographic.{slice_cmp}
@@ -18,8 +18,11 @@ use Rattle.trie_context.specs.Kept.{AreKept, AreMoved}
 use Rattle.trie_context.specs.MoveLaws.{moved_on, gained_none, at_sum, at_none, rows_as_before, rows_stay_on}
 use Rattle.trie_change.specs.declared.change.Change.{Change}
 use Rattle.trie_change.specs.Changes.{grows}
-use Rattle.trie_change.specs.Rooms.{FitsSome, AllFit, changes_lead, AreChanges, AreSmallAfter}
+use Rattle.trie_change.specs.HandLaws.{set_at_stays}
+use Rattle.trie_change.specs.Rooms.{FitsSome, AllFit, changes_lead, AreChanges, AreSmallAfter, first_set}
 use Rattle.trie_change.specs.RunLaws as runs
+use Rattle.trie_change.specs.RunLaws.{below_weaker, rise_push}
+use Rattle.trie_change.specs.Sums.{sum_at, sum_at-push, old_size, old_sizes}
 
 module _ {E : Type 0} (key : E → ℕ) (behind : E → List ℕ) (mixed : ℕ → ℕ → ℕ → ℕ → ℕ) (change : Change) (d : ℕ) (t0 : Tables) (old : Edges) (all : List E) where
   -- the entries before the rest are done, and the changes for them are in hand
@@ -50,6 +53,17 @@ module _ {E : Type 0} (key : E → ℕ) (behind : E → List ℕ) (mixed : ℕ �
 
       pub run_small : AreSmallAfter change t0 d old (runs.set_of_tuples key behind all) → set.len (after (grows change) (set_at t d (finite.get old k.0)) (set.from_list (map behind run))) < 2 ^ 64
       run_small = runs.run_small key behind change d t0 old all fits order t rest cs so_far.runs k run others cut
+
+      -- the old edge under the key stands for as many tuples as at first
+      pub old_size_is : (o : Option Edge) → o ≡ finite.get old k.0 → set.len (set_at t d o) ≡ old_size t0 d old k.0
+      old_size_is o is = ap (λ o. set.len (set_at t d o)) is ∙ ap set.len (set_at_stays mixed t0 t kept so_far.stay d (finite.get old k.0) (fits k.0))
+
+      -- these and those behind the old edges that are done are some of the map's
+      pub old_sizes_so_far : sum_at (old_size t0 d old) cs + old_size t0 d old k.0 ≤ set.len (first_set t0 d old)
+      old_sizes_so_far =
+          let low = runs.low key behind change d t0 old all fits order t rest cs so_far.runs k run others cut in
+          let rise = rise_push 0 cs (k, None) so_far.runs.rise (below_weaker so_far.runs.bound k.0 low cs so_far.runs.under) (omega arith) in
+          omega (arith, sum_at-push (old_size t0 d old) cs (k, None), old_sizes t0 d old (cs ++ (k, None) ∷ []) rise)
 
       -- the run is done
       module _ (u : Tables) (e : Option Edge) (moved : AreMoved mixed t u (at_depth d (option_leads e)) nothing) (stay : RowsStay t u)

@@ -20,7 +20,7 @@ use Rattle.trie_context.specs.FitEdges.{set_at, option_leads}
 use Rattle.trie_change.specs.declared.change.Change.{Change}
 use Rattle.trie_change.specs.Batches.{set_of_entries, pair_rest, trip_rest}
 use Rattle.trie_change.specs.Changes.{grows}
-use Rattle.trie_change.specs.Rooms.{row_set_at, changes_lead}
+use Rattle.trie_change.specs.Rooms.{row_set_at, changes_lead, first_set}
 
 -- the triples of a batch
 abbrev pub triples_of : List Trip → IdSet
@@ -82,6 +82,10 @@ graph_room batch = 3 * (2 ^ 34 * length batch + 2 ^ 32) + 1
 
 abbrev pub one_room : List Trip → ℕ
 one_room batch = 3 * (2 ^ 34 * (length batch + 1) + 2 ^ 32) + 1
+
+-- how many edges are retained at most where the pairs behind the edges of a map are copied, those of each run once
+abbrev pub runs_copied : Tables → Edges → List Trip → ℕ
+runs_copied t old triples = 2 * (set.len (first_set t 2 old) + length triples)
 
 -- the edges of three maps of a node of depth three, and their holds
 abbrev pub three_edges : Edges → Edges → Edges → ℕ → ℕ

@@ -10,5 +10,6 @@ pub mod After
 pub mod InHand
 pub mod Premises
 pub mod RunLaws
+pub mod Sums
 pub mod PairLaws
 pub mod PartLaws

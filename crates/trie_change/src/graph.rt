@@ -37,6 +37,7 @@ fn change_one<M: Mix, W: Ledger, V: Ledger>(
     ensures held { IfOk result (λ r. IsInHand M.mixed context.old context.new (root_hold r) (one_room batch.now)) }
     ensures kept { OnErr result (context.new ≡ context.old) }
     ensures ticks { interns.new ≤ interns.old + (9 * length batch.now + 10) }
+    ensures retained { retains.new ≤ retains.old + 9 * (length batch.now + 1) }
 {
     context.is_kept();
     match change {
@@ -71,6 +72,7 @@ pub fn change_graph<M: Mix, W: Ledger, V: Ledger>(
     ensures held { IfOk result (λ new. IsInHand M.mixed context.old context.new (root_hold new) (2 ^ 65)) }
     ensures kept { OnErr result (context.new ≡ context.old) }
     ensures ticks { interns.new ≤ interns.old + (9 * length batch.now + 10) }
+    ensures retained { retains.new ≤ retains.old + 9 * (set.len (root_set context.old root.now) + length batch.now) }
 {
     match root {
         Root::Empty => change_root(alloc, context, change, None, batch, interns, retains),

@@ -1,5 +1,6 @@
 //! A map of a node of depth two changed.
 ghost use Rattle.std.specs.Prelude.{◌≡◌, ◌+◌, ◌≤◌, ◌^◌, [], IfOk, OnOk, OnErr, length};
+ghost use Rattle.std.specs.FinMap as map;
 ghost use Rattle.edge_map.specs.Entries.{KeysRise};
 ghost use Rattle.edge_map.specs.Edges.{changed};
 ghost use Rattle.trie_depth.specs.Tuples.{pair_tuple};
@@ -60,6 +61,8 @@ pub fn change_pair_map<M: Mix, W: Ledger, V: Ledger>(
     ensures held { IfOk result (λ m. IsInHand M.mixed context.old context.new (map_hold 1 m) (keys_room pairs.now)) }
     ensures kept { OnErr result (context.new ≡ context.old) }
     ensures ticks { interns.new ≤ interns.old + length pairs.now }
+    ensures retained { IfOk result (λ m. retains.new ≡ retains.old + map.len m) }
+    ensures unretained { OnErr result (retains.new ≡ retains.old) }
 {
     context.is_kept();
     let mut changes = Vec::new(alloc);

@@ -88,6 +88,7 @@ fn change_pair_position<M: Mix, W: Ledger, V: Ledger>(
     ensures held { IfOk result (λ m. IsInHand M.mixed context.old context.new (map_hold 1 m) (rest_room run.now)) }
     ensures kept { OnErr result (context.new ≡ context.old) }
     ensures ticks { interns.new ≤ interns.old + length run.now }
+    ensures retained { retains.new ≤ retains.old + (set.len (set_at context.old 2 old) + length run.now) }
 {
     let pairs = pairs_by_key(alloc, run, position)?;
     let edges = pair_edges(alloc, context, old, position)?;
@@ -166,6 +167,7 @@ fn change_many_pairs<M: Mix, W: Ledger, V: Ledger>(
     ensures held { IfOk result (λ e. IsInHand M.mixed context.old context.new (edge_hold 2 e) (run_room run.now)) }
     ensures kept { OnErr result (context.new ≡ context.old) }
     ensures ticks { interns.new ≤ interns.old + 3 * length run.now }
+    ensures retained { retains.new ≤ retains.old + 2 * (set.len (set_at context.old 2 old) + length run.now) }
 {
     context.is_kept();
     let (size, hash) = pair_figures(context, old);
@@ -206,6 +208,7 @@ pub fn change_pairs<M: Mix, W: Ledger, V: Ledger>(
     ensures held { IfOk result (λ e. IsInHand M.mixed context.old context.new (edge_hold 2 e) (run_room run.now)) }
     ensures kept { OnErr result (context.new ≡ context.old) }
     ensures ticks { interns.new ≤ interns.old + 3 * length run.now }
+    ensures retained { retains.new ≤ retains.old + 2 * (set.len (set_at context.old 2 old) + length run.now) }
 {
     match lone_pair(change, old, run) {
         Some(node) => put_pair(context, node, interns),

@@ -1,9 +1,10 @@
 //! A map of a node of depth three changed.
 ghost use Rattle.std.specs.Prelude.{◌≡◌, ◌+◌, ◌*◌, ◌≤◌, ◌^◌, [], IfOk, OnOk, OnErr, length};
+ghost use Rattle.std.specs.FinMap as map;
 ghost use Rattle.edge_map.specs.Entries.{KeysRise};
 ghost use Rattle.edge_map.specs.Edges.{changed};
 ghost use Rattle.trie_depth.specs.Tuples.{trip_tuple};
-ghost use Rattle.trie_change.specs.After.{triples_of, map_hold, changes_hold, run_room, map_room};
+ghost use Rattle.trie_change.specs.After.{triples_of, map_hold, changes_hold, run_room, map_room, runs_copied};
 ghost use Rattle.trie_change.specs.InHand.{IsInHand};
 ghost use Rattle.trie_change.specs.Premises.{MayChangeMap};
 ghost use Rattle.trie_change.specs.Rooms.{LeavesRoom, AreChanged, AreSmallAfter};
@@ -38,6 +39,7 @@ fn triple_changes<M: Mix, W: Ledger, V: Ledger>(
     ensures changed { OnOk result (AreChanged change context.old context.new 2 old.now (triples_of triples.now) (changed old.now changes.new.items)) }
     ensures held { IsInHand M.mixed context.old context.new (changes_hold 2 changes.new.items) (run_room triples.now) }
     ensures ticks { interns.new ≤ interns.old + 3 * length triples.now }
+    ensures retained { retains.new ≤ retains.old + runs_copied context.old old.now triples.now }
 {
     context.is_kept();
     each_run!(triples, changes, triple_run, (key, run) => {
@@ -46,41 +48,38 @@ fn triple_changes<M: Mix, W: Ledger, V: Ledger>(
 }
 
 /// The map of a node of depth three with the edge under the first key of each triple changed by what is behind it. The new
-/// map's edges are in hand.
+/// map's edges are in hand. The triples are let go before it is made.
 pub fn change_triple_map<M: Mix, W: Ledger, V: Ledger>(
     alloc: Global,
     context: &mut Context<M>,
     change: Change,
     old: &EdgeMap,
-    triples: &[Trip],
+    triples: Vec<Trip>,
     interns: &mut Steps<W>,
     retains: &mut Steps<V>,
 ) -> Result<EdgeMap, Memory>
-    requires entries { MayChangeMap change context.old 2 trip_tuple old.now triples.now }
-    requires size { AreSmallAfter change context.old 2 old.now (triples_of triples.now) }
-    requires room { LeavesRoom context.old (map_room triples.now) }
-    ensures changed { IfOk result (AreChanged change context.old context.new 2 old.now (triples_of triples.now)) }
-    ensures held { IfOk result (λ m. IsInHand M.mixed context.old context.new (map_hold 2 m) (map_room triples.now)) }
+    requires entries { MayChangeMap change context.old 2 trip_tuple old.now triples.items }
+    requires size { AreSmallAfter change context.old 2 old.now (triples_of triples.items) }
+    requires room { LeavesRoom context.old (map_room triples.items) }
+    ensures changed { IfOk result (AreChanged change context.old context.new 2 old.now (triples_of triples.items)) }
+    ensures held { IfOk result (λ m. IsInHand M.mixed context.old context.new (map_hold 2 m) (map_room triples.items)) }
     ensures kept { OnErr result (context.new ≡ context.old) }
-    ensures ticks { interns.new ≤ interns.old + 3 * length triples.now }
+    ensures ticks { interns.new ≤ interns.old + 3 * length triples.items }
+    ensures retained { IfOk result (λ m. retains.new ≤ retains.old + (runs_copied context.old old.now triples.items + map.len m)) }
+    ensures few { OnErr result (retains.new ≤ retains.old + runs_copied context.old old.now triples.items) }
 {
     context.is_kept();
     let mut changes = Vec::new(alloc);
-    changed_map!(
+    let made = triple_changes(
+        alloc,
         context,
-        L3,
+        change,
         old,
-        changes,
-        triple_changes(
-            alloc,
-            context,
-            change,
-            old,
-            triples,
-            &mut changes,
-            interns,
-            retains
-        ),
-        retains
-    )
+        &triples,
+        &mut changes,
+        interns,
+        retains,
+    );
+    drop(triples);
+    changed_map!(context, L3, old, changes, made, retains)
 }

@@ -78,10 +78,11 @@ fn change_triple_position<M: Mix, W: Ledger, V: Ledger>(
     ensures held { IfOk result (λ m. IsInHand M.mixed context.old context.new (map_hold 2 m) (map_room batch.now)) }
     ensures kept { OnErr result (context.new ≡ context.old) }
     ensures ticks { interns.new ≤ interns.old + 3 * length batch.now }
+    ensures retained { retains.new ≤ retains.old + 3 * (set.len (row_set_at context.old old) + length batch.now) }
 {
     let triples = triples_by_key(alloc, batch, position)?;
     let edges = triple_edges(alloc, context, old, position)?;
-    change_triple_map(alloc, context, change, &edges, &triples, interns, retains)
+    change_triple_map(alloc, context, change, &edges, triples, interns, retains)
 }
 
 /// The edges at the three positions of the changed set. They are in hand.
@@ -102,6 +103,7 @@ fn change_positions<M: Mix, W: Ledger, V: Ledger>(
     ensures held { IfOk result (λ m. IsInHand M.mixed context.old context.new (three_maps m.0 m.1 m.2) (maps_room batch.now)) }
     ensures kept { OnErr result (context.new ≡ context.old) }
     ensures ticks { interns.new ≤ interns.old + 9 * length batch.now }
+    ensures retained { retains.new ≤ retains.old + 9 * (set.len (row_set_at context.old old) + length batch.now) }
 {
     context.is_kept();
     let first = change_triple_position(alloc, context, change, old, batch, 0, interns, retains)?;
@@ -175,6 +177,7 @@ pub fn change_root<M: Mix, W: Ledger, V: Ledger>(
     ensures held { IfOk result (λ r. IsInHand M.mixed context.old context.new (root_hold r) (graph_room batch.now)) }
     ensures kept { OnErr result (context.new ≡ context.old) }
     ensures ticks { interns.new ≤ interns.old + (9 * length batch.now + 1) }
+    ensures retained { retains.new ≤ retains.old + 9 * (set.len (row_set_at context.old old) + length batch.now) }
 {
     context.is_kept();
     let (size, hash) = triple_figures(context, old);

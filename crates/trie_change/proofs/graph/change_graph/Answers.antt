@@ -8,6 +8,9 @@ use Rattle.trie_context.specs.declared.root.Root.TheVariants.{Many}
 use Rattle.trie_change.specs.Batches.{set_of_entries}
 use Rattle.trie_change.specs.Changes.{grows}
 use Rattle.trie_change.proofs.RootLemmas.{len-after_le}
+use Rattle.std.specs.Cmp.{nat_cmp_total as total}
+use Rattle.std.specs.FinMap.{nat_cmp-IsAntisymmetric as exact}
+use Rattle.hypertrie_model.specs.SetLaws.{len-single}
 use Rattle.trie_change.proofs.graph.change_graph.Goals as goal
 
 pub change_root-requires-clause-batch : goal.change_root-requires-clause-batch
@@ -32,3 +35,12 @@ change_root-requires-in-Many-clause-batch g c =
       size = subst (λ r. set.len (after (grows c.args.change) (root_set c.args.context.now r) S) < 2 ^ 64) is
           (omega (arith, c.requires.size, c.requires.batch, c.requires.once, len-after_le (grows c.args.change) (root_set c.args.context.now c.args.root.now) S c.requires.change));
     }
+
+pub returns-in-Empty-clause-retained : goal.returns-in-Empty-clause-retained
+returns-in-Empty-clause-retained g c = omega (arith, c.change_root.ensures.retained, ap (λ r. set.len (root_set c.args.context.now r)) c.in-Empty.is)
+
+pub returns-in-One-clause-retained : goal.returns-in-One-clause-retained
+returns-in-One-clause-retained g c = omega (arith, c.change_one.ensures.retained, ap (λ r. set.len (root_set c.args.context.now r)) c.in-One.is, len-single total exact (trip_tuple c.in-One.triple))
+
+pub returns-in-Many-clause-retained : goal.returns-in-Many-clause-retained
+returns-in-Many-clause-retained g c = omega (arith, c.change_root-in-Many.ensures.retained, ap (λ r. set.len (root_set c.args.context.now r)) (c.in-Many.is ∙ ap Many (sym c.row-row.ensures)))

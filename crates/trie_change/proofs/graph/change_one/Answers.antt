@@ -1,4 +1,4 @@
-use Rattle.std.proofs.Common.{◌≡◌, ◌<◌, ◌^◌, ◌++◌, ◌∷◌, [], IfOk, true, sym, subst, arith, rules}
+use Rattle.std.proofs.Common.{◌≡◌, ◌<◌, ◌^◌, ◌++◌, ◌∷◌, [], IfOk, true, ap, length, length-append, sym, subst, arith, rules}
 use Rattle.std.specs.Ordering.{nat_cmp}
 use Rattle.std.specs.Cmp.Lexicographic.{slice_cmp}
 use Rattle.std.specs.FinSet as set
@@ -43,3 +43,8 @@ returns-in_ok-push-in-Grow-clause-set g c =
     (subst (λ h. after (grows h) (empty nat_cmp) (set_of_entries trip_tuple c.deref.result.now) ≡ after (grows h) (single nat_cmp (trip_tuple c.args.triple)) (set_of_entries trip_tuple c.args.batch.now)) (sym c.in-Grow.is)
     (grown_one c.args.batch.now c.args.triple c.deref.result.now is))
     c.change_root.ensures.set
+
+pub returns-in_ok-push-in-Grow-clause-retained : goal.returns-in_ok-push-in-Grow-clause-retained
+returns-in_ok-push-in-Grow-clause-retained g c =
+    let is : c.deref.result.now ≡ c.args.batch.now ++ c.args.triple ∷ [] = search rules in
+    omega (arith, c.change_root.ensures.retained, set.len-empty (slice_cmp nat_cmp), ap length is, length-append c.args.batch.now (c.args.triple ∷ []))

@@ -1,4 +1,4 @@
-use Rattle.std.proofs.Common.{◌≡◌, ◌≤◌, subst, sym, ◌∙◌, refl, length, arith}
+use Rattle.std.proofs.Common.{◌≡◌, ◌≤◌, ap, subst, sym, ◌∙◌, refl, length, arith}
 use Rattle.std.specs.FinSet as set
 use Rattle.hypertrie_model.specs.Changes.{after, IsChange}
 use Rattle.trie_node.specs.Sets.{edges_in}
@@ -160,3 +160,23 @@ returns-clause-held g c =
       counts = λ d r. omega (arith, c.in_ok-first.ensures.held.counts d r, c.in-Ok.ensures.held.counts d r, c.in_ok-held.ensures.counts d r, at_most 2 (one_at c.in_ok-held.held) 1 (one_at_most c.in_ok-held.held) d r, c.requires.some);
       stay = rows_stay_on t u c.intern.new.self (rows_stay_on t c.change_pair_position.new.context u c.in_ok-first.ensures.held.stay c.in-Ok.ensures.held.stay) c.in_ok-held.ensures.stay;
     }
+
+pub returns-in-Err-clause-retained : goal.returns-in-Err-clause-retained
+returns-in-Err-clause-retained g c =
+    let still = set_at_stays g.M.Mix.mixed c.args.context.now c.change_pair_position.new.context c.is_kept.ensures c.in_ok-first.ensures.held.stay 2 c.args.old c.requires.run.fits in
+    omega (arith, c.change_pair_position.ensures.retained, c.change_pair_position-2.ensures.retained, ap set.len still)
+
+pub returns-then-size-eq0-clause-retained : goal.returns-then-size-eq0-clause-retained
+returns-then-size-eq0-clause-retained g c =
+    let still = set_at_stays g.M.Mix.mixed c.args.context.now c.change_pair_position.new.context c.is_kept.ensures c.in_ok-first.ensures.held.stay 2 c.args.old c.requires.run.fits in
+    omega (arith, c.change_pair_position.ensures.retained, c.change_pair_position-2.ensures.retained, ap set.len still)
+
+pub returns-in_err-held-clause-retained : goal.returns-in_err-held-clause-retained
+returns-in_err-held-clause-retained g c =
+    let still = set_at_stays g.M.Mix.mixed c.args.context.now c.change_pair_position.new.context c.is_kept.ensures c.in_ok-first.ensures.held.stay 2 c.args.old c.requires.run.fits in
+    omega (arith, c.change_pair_position.ensures.retained, c.change_pair_position-2.ensures.retained, ap set.len still)
+
+pub returns-clause-retained : goal.returns-clause-retained
+returns-clause-retained g c =
+    let still = set_at_stays g.M.Mix.mixed c.args.context.now c.change_pair_position.new.context c.is_kept.ensures c.in_ok-first.ensures.held.stay 2 c.args.old c.requires.run.fits in
+    omega (arith, c.change_pair_position.ensures.retained, c.change_pair_position-2.ensures.retained, ap set.len still)

@@ -9,6 +9,7 @@ use Rattle.trie_change.specs.BatchLaws.{order_once}
 use Rattle.trie_change.specs.Changes.{grows}
 use Rattle.trie_change.specs.Rooms.{AreSlicesAt, AreChanged}
 use Rattle.trie_change.specs.PairLaws.{if_ok, changes_of, slices_after}
+use Rattle.trie_change.proofs.RetainLemmas.{keys_retained}
 use Rattle.trie_change.proofs.pairs.change_pair_position.Goals as goal
 
 pub pairs_by_key-requires-clause-once : goal.pairs_by_key-requires-clause-once
@@ -34,3 +35,8 @@ returns-clause-slices g c =
     c.in_ok-edges.ensures
     (λ k. ap (λ ps. slice nat_cmp (set_of_entries pair_tuple ps) 0 k) c.deref.ensures.value ∙ c.in_ok-pairs.ensures.slices k) m changed)
     c.change_pair_map.ensures.changed
+
+pub returns-clause-retained : goal.returns-clause-retained
+returns-clause-retained g c =
+    keys_retained c.change_pair_map.new.context 1 c.args.change (set_at c.args.context.now 2 c.args.old) (set_of_entries trip_rest c.args.run.now) c.requires.run.change _ (order_once trip_rest c.args.run.now c.requires.run.order) c.args.position
+    c.change_pair_map.result _ _ c.change_pair_map.ensures.retained c.change_pair_map.ensures.unretained (returns-clause-slices g c)

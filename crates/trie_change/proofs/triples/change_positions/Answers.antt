@@ -1,4 +1,4 @@
-use Rattle.std.proofs.Common.{ℕ, ◌+◌, ◌<◌, ◌^◌, sym, subst, refl, arith}
+use Rattle.std.proofs.Common.{ℕ, ◌+◌, ◌<◌, ◌^◌, ap, sym, subst, refl, arith}
 use Rattle.std.specs.FinSet as set
 use Rattle.hypertrie_model.specs.Changes.{after, IsChange}
 use Rattle.trie_depth.specs.Tuples.{trip_tuple}
@@ -88,3 +88,31 @@ returns-in-Err-change_triple_position-clause-kept g c =
     (both_given e f c.release_map-in-Err-change_triple_position.ensures.moved c.release_map-in-Err-change_triple_position-2.ensures.moved)
     (rows_stay_on c.release_map-in-Err-change_triple_position-2.new.self c.release_map-in-Err-change_triple_position.new.self c.change_triple_position-3.new.context c.release_map-in-Err-change_triple_position-2.ensures.came c.release_map-in-Err-change_triple_position.ensures.came)
     (λ d r. refl)
+
+pub returns-in-Err-clause-retained : goal.returns-in-Err-clause-retained
+returns-in-Err-clause-retained g c =
+    omega (arith, c.change_triple_position.ensures.retained, c.change_triple_position-2.ensures.retained, ap set.len (row_set_stays g.M.Mix.mixed c.args.context.now c.change_triple_position.new.context c.is_kept.ensures c.in_ok-first.ensures.held.stay c.args.old c.requires.batch.there))
+
+pub returns-in-Ok-change_triple_position-clause-retained :
+    goal.returns-in-Ok-change_triple_position-clause-retained
+returns-in-Ok-change_triple_position-clause-retained g c =
+    omega (
+      arith,
+      c.change_triple_position.ensures.retained,
+      c.change_triple_position-2.ensures.retained,
+      c.change_triple_position-3.ensures.retained,
+      ap set.len (row_set_stays g.M.Mix.mixed c.args.context.now c.change_triple_position.new.context c.is_kept.ensures c.in_ok-first.ensures.held.stay c.args.old c.requires.batch.there),
+      ap set.len (row_set_stays g.M.Mix.mixed c.args.context.now c.change_triple_position-2.new.context c.is_kept.ensures (rows_stay_on c.args.context.now c.change_triple_position.new.context c.change_triple_position-2.new.context c.in_ok-first.ensures.held.stay c.in-Ok.ensures.held.stay) c.args.old c.requires.batch.there),
+    )
+
+pub returns-in-Err-change_triple_position-clause-retained :
+    goal.returns-in-Err-change_triple_position-clause-retained
+returns-in-Err-change_triple_position-clause-retained g c =
+    omega (
+      arith,
+      c.change_triple_position.ensures.retained,
+      c.change_triple_position-2.ensures.retained,
+      c.change_triple_position-3.ensures.retained,
+      ap set.len (row_set_stays g.M.Mix.mixed c.args.context.now c.change_triple_position.new.context c.is_kept.ensures c.in_ok-first.ensures.held.stay c.args.old c.requires.batch.there),
+      ap set.len (row_set_stays g.M.Mix.mixed c.args.context.now c.change_triple_position-2.new.context c.is_kept.ensures (rows_stay_on c.args.context.now c.change_triple_position.new.context c.change_triple_position-2.new.context c.in_ok-first.ensures.held.stay c.in-Ok.ensures.held.stay) c.args.old c.requires.batch.there),
+    )

@@ -11,5 +11,6 @@ pub mod InHand
 pub mod Premises
 pub mod RunLaws
 pub mod Sums
+pub mod Extra
 pub mod PairLaws
 pub mod PartLaws

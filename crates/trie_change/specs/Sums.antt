@@ -174,7 +174,7 @@ sum_at-same f g from [] rise same = refl
 sum_at-same f g from (c ∷ cs) rise same = omega (arith, same c.0.0 rise.0, sum_at-same f g (suc c.0.0) cs rise.1 (λ k le. let low = rise.0 in same k (omega arith)))
 
 -- what stands in a map under rising keys is no more than the whole
-pub sum_at-within : (f : ℕ → Edge → ℕ) (from : ℕ) (cs : List (Id × Option Edge)) (m : Edges) → RiseFrom from cs → sum_at (λ k. part f k (map.get m k)) cs ≤ sum_over m f
+pub sum_at-within : {X : Type 0} (f : ℕ → X → ℕ) (from : ℕ) (cs : List (Id × Option Edge)) (m : map.FinMap nat_cmp X) → RiseFrom from cs → sum_at (λ k. part f k (map.get m k)) cs ≤ sum_over m f
 sum_at-within f from [] m rise = omega arith
 sum_at-within f from (c ∷ cs) m rise =
     omega (

@@ -1,6 +1,7 @@
 mod HeldMaps
 mod OwnMaps
 mod PairTurns
+mod SharedLemmas
 mod Stored
 mod TripleTurns
 mod Turns

@@ -1,5 +1,5 @@
 -- Tables in which nothing was gained are as before; what follows for want of memory.
-use Rattle.std.specs.Prelude.{◌≡◌, ℕ, Option, Result, Ok, Err, OnErr}
+use Rattle.std.specs.Prelude.{◌≡◌, ℕ, Option, Result, Ok, Err, OnOk, OnErr}
 use Rattle.std.proofs.Common.{arith}
 use Rattle.edge_map.specs.declared.edge.Edge.{Edge}
 use Rattle.trie_context.specs.declared.tables.Tables.{Tables}
@@ -21,3 +21,7 @@ unmoved mixed t u kept d e none moved stay =
 pub err_then : {T E : Type 0} (P Q : Type 0) (r : Result T E) → (P → Q) → OnErr r P → OnErr r Q
 err_then P Q (Ok x) then h = tt
 err_then P Q (Err e) then h = then h
+
+pub ok_holds : {T E : Type 0} (P : Type 0) (r : Result T E) → P → OnOk r P
+ok_holds P (Ok x) h = h
+ok_holds P (Err e) h = tt

@@ -9,7 +9,9 @@ ghost use Rattle.trie_node.specs.Sets.{edges_in, edges_of};
 ghost use Rattle.trie_context.specs.Holds.{count_of, holds_of, one_at, at_depth};
 ghost use Rattle.trie_context.specs.Roots.{root_set, root_hold};
 ghost use Rattle.trie_context.specs.Rows.{row_of, node_of, set_of};
+ghost use Rattle.trie_context.specs.Shape.{OnlyHeld};
 ghost use Rattle.trie_change.specs.After.{row_after, graph_room};
+ghost use Rattle.trie_change.specs.Extra.{extra};
 ghost use Rattle.trie_change.specs.Premises.{MayChangeRow};
 ghost use Rattle.trie_change.specs.Rooms.{LeavesRoom, AreSlicesAt};
 
@@ -66,6 +68,7 @@ pub fn reopen_triples<M: Mix, W: Ledger, V: Ledger>(
     ensures logged { IfOk result (λ root. IsLogged M.mixed context.old context.new log.old.steps log.new.steps (root_hold root) (at_depth 3 (one_at row)) (graph_room batch.now)) }
     ensures grew { OnErr result (Grows M.mixed context.old context.new log.old.steps log.new.steps) }
     ensures ticks { interns.new ≤ interns.old + (9 * length batch.now + 1) }
+    ensures retained { OnlyHeld context.old row → retains.new ≤ retains.old + (6 * length batch.now + extra (set_of context.old 3 row) (row_after change context.old (Some row) batch.now)) }
 {
     context.is_kept();
     let (size, hash) = triple_figures(context, Some(row));
@@ -76,15 +79,15 @@ pub fn reopen_triples<M: Mix, W: Ledger, V: Ledger>(
     open_triples(context, row, log);
     let by_first = triples_by_key(alloc, batch, 0)?;
     let one = replace_triple_map(
-        alloc, context, change, &first, &by_first, log, interns, retains,
+        alloc, context, change, &first, by_first, log, interns, retains,
     )?;
     let by_second = triples_by_key(alloc, batch, 1)?;
     let two = replace_triple_map(
-        alloc, context, change, &second, &by_second, log, interns, retains,
+        alloc, context, change, &second, by_second, log, interns, retains,
     )?;
     let by_third = triples_by_key(alloc, batch, 2)?;
     let three = replace_triple_map(
-        alloc, context, change, &third, &by_third, log, interns, retains,
+        alloc, context, change, &third, by_third, log, interns, retains,
     )?;
     let node = Node::Full {
         size,

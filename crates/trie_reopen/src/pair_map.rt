@@ -6,10 +6,11 @@ ghost use Rattle.edge_map.specs.Edges.{changed};
 ghost use Rattle.edge_map.specs.Entries.{KeysRise};
 ghost use Rattle.trie_depth.specs.Tuples.{pair_tuple};
 ghost use Rattle.trie_node.specs.Sets.{edges_in};
-ghost use Rattle.trie_context.specs.Holds.{holds_of};
+ghost use Rattle.trie_context.specs.Holds.{holds_of, nothing};
 ghost use Rattle.trie_change.specs.After.{map_hold, pairs_of};
 ghost use Rattle.trie_change.specs.Premises.{MayChangeMap};
 ghost use Rattle.trie_change.specs.Rooms.{LeavesRoom, AreChanged};
+ghost use Rattle.trie_reopen.specs.Shared.{HoldsRiseBy};
 
 use crate::keys::replace_keys;
 use change_log::Log;
@@ -41,6 +42,7 @@ pub fn replace_each<M: Mix, W: Ledger>(
     ensures logged { OnOk result (IsLogged M.mixed context.old context.new log.old.steps log.new.steps (map_hold 1 (changed old.now changes.new.items)) (map_hold 1 old.now) (length pairs.now)) }
     ensures grew { OnErr result (Grows M.mixed context.old context.new log.old.steps log.new.steps) }
     ensures ticks { interns.new ≤ interns.old + length pairs.now }
+    ensures risen { OnOk result (HoldsRiseBy context.old context.new nothing) }
 {
     context.is_kept();
     let mut rest = pairs;
@@ -73,6 +75,7 @@ pub fn replace_pair_map<M: Mix, W: Ledger>(
     ensures logged { IfOk result (λ m. IsLogged M.mixed context.old context.new log.old.steps log.new.steps (map_hold 1 m) (map_hold 1 old.now) (length pairs.now)) }
     ensures grew { OnErr result (Grows M.mixed context.old context.new log.old.steps log.new.steps) }
     ensures ticks { interns.new ≤ interns.old + length pairs.now }
+    ensures risen { OnOk result (HoldsRiseBy context.old context.new nothing) }
 {
     let mut changes = Vec::new(alloc);
     replace_each(

@@ -6,8 +6,8 @@ ghost use Rattle.change_log.specs.Logged.{IsLogged};
 ghost use Rattle.edge_map.specs.declared.edge.Edge.{Edge};
 ghost use Rattle.trie_node.specs.declared.node.Node.{Node};
 ghost use Rattle.trie_node.specs.Sets.{edges_in, edges_of};
-ghost use Rattle.trie_context.specs.FitEdges.{StandsAt, option_leads};
-ghost use Rattle.trie_context.specs.Holds.{count_of, holds_of, one_at, at_depth};
+ghost use Rattle.trie_context.specs.FitEdges.{set_at, StandsAt, option_leads};
+ghost use Rattle.trie_context.specs.Holds.{count_of, holds_of, one_at, at_depth, nothing};
 ghost use Rattle.trie_context.specs.Kept.{IsNode};
 ghost use Rattle.trie_context.specs.Opened.{IsOpened};
 ghost use Rattle.trie_context.specs.Rows.{row_of, node_of, set_of, node_set};
@@ -15,6 +15,7 @@ ghost use Rattle.trie_change.specs.After.{pairs_after, run_room};
 ghost use Rattle.trie_change.specs.Batches.{trip_rest};
 ghost use Rattle.trie_change.specs.Premises.{MayChangeEdge};
 ghost use Rattle.trie_change.specs.Rooms.{LeavesRoom, FitsSome, AreSlicesAt};
+ghost use Rattle.trie_reopen.specs.Shared.{HoldsRiseBy};
 
 use change_log::{Log, RowStep, Step};
 use edge_map::{Edge, EdgeMap};
@@ -50,6 +51,7 @@ pub fn open_pairs<M: Mix>(context: &mut Context<M>, row: usize, log: &mut Log)
     requires room { 0 < log.old.spare }
     ensures opened { (n : Node) × (node_of context.old 2 row ≡ Some n) × IsLogged M.mixed context.old context.new log.old.steps log.new.steps (at_depth 1 (edges_of n)) (at_depth 2 (one_at row)) 0 }
     ensures below { (r : ℕ) → set_of context.new 1 r ≡ set_of context.old 1 r }
+    ensures risen { HoldsRiseBy context.old context.new nothing }
 {
     context.is_kept();
     match context.open(Held::<L2>::of_edge(Edge::Node(row))) {
@@ -73,6 +75,7 @@ pub fn store_pairs<M: Mix, W: Ledger>(
     ensures logged { IfOk result (λ e. IsLogged M.mixed context.old context.new log.old.steps log.new.steps (edge_hold 2 e) (at_depth 1 (edges_of node)) 1) }
     ensures grew { OnErr result (Grows M.mixed context.old context.new log.old.steps log.new.steps) }
     ensures ticks { interns.new ≤ interns.old + 1 }
+    ensures risen { IfOk result (λ e. HoldsRiseBy context.old context.new (edge_hold 2 e)) }
 {
     context.is_kept();
     log.reserve()?;
@@ -108,6 +111,8 @@ pub fn replace_pairs<M: Mix, W: Ledger, V: Ledger>(
     ensures logged { IfOk result (λ e. IsLogged M.mixed context.old context.new log.old.steps log.new.steps (edge_hold 2 e) (edge_hold 2 old) (run_room run.now)) }
     ensures grew { OnErr result (Grows M.mixed context.old context.new log.old.steps log.new.steps) }
     ensures ticks { interns.new ≤ interns.old + 3 * length run.now }
+    ensures risen { IfOk result (λ e. HoldsRiseBy context.old context.new (edge_hold 2 e)) }
+    ensures retained { retains.new ≤ retains.old + 2 * (set.len (set_at context.old 2 old) + length run.now) }
 {
     context.is_kept();
     log.reserve()?;

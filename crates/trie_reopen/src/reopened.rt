@@ -1,16 +1,19 @@
 //! A row of pairs that nothing else leads to, opened, changed and stored again.
-ghost use Rattle.std.specs.Prelude.{◌≡◌, ◌+◌, ◌*◌, ◌≤◌, ◌<◌, ◌^◌, ℕ, Some, IfOk, OnErr, length};
+ghost use Rattle.std.specs.Prelude.{◌≡◌, ◌≢◌, ◌+◌, ◌*◌, ◌≤◌, ◌<◌, ◌^◌, ℕ, Some, IsNone, IfSome, IfOk, OnErr, length};
 ghost use Rattle.std.specs.FinSet as set;
 ghost use Rattle.change_log.specs.Log.{edge_hold, Grows};
 ghost use Rattle.change_log.specs.Logged.{IsLogged};
 ghost use Rattle.edge_map.specs.declared.edge.Edge.{Edge};
-ghost use Rattle.trie_context.specs.FitEdges.{StandsAt, option_leads};
+ghost use Rattle.trie_context.specs.FitEdges.{set_at, StandsAt, option_leads};
+ghost use Rattle.hypertrie_model.specs.IdSets.{IdSet};
 ghost use Rattle.trie_context.specs.Holds.{count_of, holds_of, one_at, at_depth};
 ghost use Rattle.trie_context.specs.Rows.{row_of};
 ghost use Rattle.trie_change.specs.After.{pairs_after, run_room};
 ghost use Rattle.trie_change.specs.Batches.{trip_rest};
 ghost use Rattle.trie_change.specs.Premises.{MayChangeEdge};
-ghost use Rattle.trie_change.specs.Rooms.{LeavesRoom};
+ghost use Rattle.trie_change.specs.Extra.{shared_edges};
+ghost use Rattle.trie_change.specs.Rooms.{LeavesRoom, FitsSome};
+ghost use Rattle.trie_reopen.specs.Shared.{HoldsRiseBy, AreShared};
 
 use crate::pair_map::replace_pair_map;
 use crate::pairs::{open_pairs, pair_maps, replace_pairs, store_pairs};
@@ -43,6 +46,7 @@ fn reopen_pairs<M: Mix, W: Ledger>(
     ensures logged { IfOk result (λ e. IsLogged M.mixed context.old context.new log.old.steps log.new.steps (edge_hold 2 e) (at_depth 2 (one_at row)) (run_room run.now)) }
     ensures grew { OnErr result (Grows M.mixed context.old context.new log.old.steps log.new.steps) }
     ensures ticks { interns.new ≤ interns.old + 3 * length run.now }
+    ensures risen { IfOk result (λ e. HoldsRiseBy context.old context.new (edge_hold 2 e)) }
 {
     context.is_kept();
     let (size, hash) = pair_figures(context, Some(Edge::Node(row)));
@@ -60,6 +64,23 @@ fn reopen_pairs<M: Mix, W: Ledger>(
     }
     let node = pair_node::<M>(alloc, size, hash, one, two);
     store_pairs(context, node, log, interns)
+}
+
+/// The row of an edge, where nothing else leads to it.
+fn own_row<M: Mix>(context: &Context<M>, edge: Option<Edge>) -> Option<usize>
+    requires { FitsSome context.now 2 edge }
+    ensures there { IfSome result (λ row. edge ≡ Some (Edge.Node row)) }
+    ensures alone { IfSome result (λ row. count_of (row_of context.now 2 row) ≤ 1) }
+    ensures others { IsNone result → (r : ℕ) → edge ≡ Some (Edge.Node r) → count_of (row_of context.now 2 r) ≢ 1 }
+{
+    let Some(Edge::Node(row)) = edge else {
+        return None;
+    };
+    if context.tables().two.count(row) == 1 {
+        Some(row)
+    } else {
+        None
+    }
 }
 
 /// The edge for the pairs of an edge, changed by those behind the first key of the run: a row that nothing else leads to is
@@ -83,11 +104,12 @@ pub fn change_held_pairs<M: Mix, W: Ledger, V: Ledger>(
     ensures logged { IfOk result (λ e. IsLogged M.mixed context.old context.new log.old.steps log.new.steps (edge_hold 2 e) (edge_hold 2 old) (run_room run.now)) }
     ensures grew { OnErr result (Grows M.mixed context.old context.new log.old.steps log.new.steps) }
     ensures ticks { interns.new ≤ interns.old + 3 * length run.now }
+    ensures risen { IfOk result (λ e. HoldsRiseBy context.old context.new (edge_hold 2 e)) }
+    ensures retained { (G H : IdSet) → AreShared G H context.old → retains.new ≤ retains.old + (2 * length run.now + shared_edges G H (set_at context.old 2 old)) }
 {
-    if let Some(Edge::Node(row)) = old {
-        if context.tables().two.count(row) == 1 {
-            return reopen_pairs(alloc, context, change, row, run, log, interns);
-        }
+    context.is_kept();
+    match own_row(context, old) {
+        Some(row) => reopen_pairs(alloc, context, change, row, run, log, interns),
+        None => replace_pairs(alloc, context, change, old, run, log, interns, retains),
     }
-    replace_pairs(alloc, context, change, old, run, log, interns, retains)
 }

@@ -4,12 +4,15 @@ ghost use Rattle.change_log.specs.Log.{Grows};
 ghost use Rattle.change_log.specs.Logged.{IsLogged};
 ghost use Rattle.edge_map.specs.Edges.{changed};
 ghost use Rattle.edge_map.specs.Entries.{KeysRise};
+ghost use Rattle.hypertrie_model.specs.IdSets.{IdSet};
 ghost use Rattle.trie_depth.specs.Tuples.{trip_tuple};
 ghost use Rattle.trie_node.specs.Sets.{edges_in};
 ghost use Rattle.trie_context.specs.Holds.{holds_of};
 ghost use Rattle.trie_change.specs.After.{map_hold, run_room, triples_of};
 ghost use Rattle.trie_change.specs.Premises.{MayChangeMap};
+ghost use Rattle.trie_change.specs.Extra.{extra_at};
 ghost use Rattle.trie_change.specs.Rooms.{LeavesRoom, AreChanged, AreSmallAfter};
+ghost use Rattle.trie_reopen.specs.Shared.{AreShared, AreTurned};
 
 use crate::reopened::change_held_pairs;
 use change_log::Log;
@@ -43,6 +46,8 @@ fn replace_rows<M: Mix, W: Ledger, V: Ledger>(
     ensures logged { OnOk result (IsLogged M.mixed context.old context.new log.old.steps log.new.steps (map_hold 2 (changed old.now changes.new.items)) (map_hold 2 old.now) (run_room triples.now)) }
     ensures grew { OnErr result (Grows M.mixed context.old context.new log.old.steps log.new.steps) }
     ensures ticks { interns.new ≤ interns.old + 3 * length triples.now }
+    ensures shared { OnOk result ((G H : IdSet) (i : ℕ) → AreTurned change G H i context.old old.now triples.now → AreShared G H context.old → AreShared G H context.new) }
+    ensures retained { (G H : IdSet) (i : ℕ) → AreTurned change G H i context.old old.now triples.now → AreShared G H context.old → retains.new ≤ retains.old + (2 * length triples.now + extra_at G H i) }
 {
     context.is_kept();
     let mut rest = triples;
@@ -67,25 +72,27 @@ fn replace_rows<M: Mix, W: Ledger, V: Ledger>(
 }
 
 /// The map with the edge under the first key of each triple changed by what is behind it. The old map's edges were in hand,
-/// and the new one's are.
+/// and the new one's are. The triples are let go before it is made.
 pub fn replace_triple_map<M: Mix, W: Ledger, V: Ledger>(
     alloc: Global,
     context: &mut Context<M>,
     change: Change,
     old: &EdgeMap,
-    triples: &[Trip],
+    triples: Vec<Trip>,
     log: &mut Log,
     interns: &mut Steps<W>,
     retains: &mut Steps<V>,
 ) -> Result<EdgeMap, Memory>
-    requires entries { MayChangeMap change context.old 2 trip_tuple old.now triples.now }
-    requires size { AreSmallAfter change context.old 2 old.now (triples_of triples.now) }
+    requires entries { MayChangeMap change context.old 2 trip_tuple old.now triples.items }
+    requires size { AreSmallAfter change context.old 2 old.now (triples_of triples.items) }
     requires held { (r : ℕ) → edges_in old.now r ≤ holds_of context.old 2 r }
-    requires room { LeavesRoom context.old (run_room triples.now) }
-    ensures changed { IfOk result (AreChanged change context.old context.new 2 old.now (triples_of triples.now)) }
-    ensures logged { IfOk result (λ m. IsLogged M.mixed context.old context.new log.old.steps log.new.steps (map_hold 2 m) (map_hold 2 old.now) (run_room triples.now)) }
+    requires room { LeavesRoom context.old (run_room triples.items) }
+    ensures changed { IfOk result (AreChanged change context.old context.new 2 old.now (triples_of triples.items)) }
+    ensures logged { IfOk result (λ m. IsLogged M.mixed context.old context.new log.old.steps log.new.steps (map_hold 2 m) (map_hold 2 old.now) (run_room triples.items)) }
     ensures grew { OnErr result (Grows M.mixed context.old context.new log.old.steps log.new.steps) }
-    ensures ticks { interns.new ≤ interns.old + 3 * length triples.now }
+    ensures ticks { interns.new ≤ interns.old + 3 * length triples.items }
+    ensures shared { OnOk result ((G H : IdSet) (i : ℕ) → AreTurned change G H i context.old old.now triples.items → AreShared G H context.old → AreShared G H context.new) }
+    ensures retained { (G H : IdSet) (i : ℕ) → AreTurned change G H i context.old old.now triples.items → AreShared G H context.old → retains.new ≤ retains.old + (2 * length triples.items + extra_at G H i) }
 {
     let mut changes = Vec::new(alloc);
     replace_rows(
@@ -93,11 +100,12 @@ pub fn replace_triple_map<M: Mix, W: Ledger, V: Ledger>(
         context,
         change,
         old,
-        triples,
+        &triples,
         &mut changes,
         log,
         interns,
         retains,
     )?;
+    drop(triples);
     old.with(&changes)
 }

@@ -24,6 +24,7 @@ pub fn open_triples<M: Mix>(context: &mut Context<M>, row: usize, log: &mut Log)
     requires room { 0 < log.old.spare }
     ensures opened { (n : Node) × (node_of context.old 3 row ≡ Some n) × IsLogged M.mixed context.old context.new log.old.steps log.new.steps (at_depth 2 (edges_of n)) (at_depth 3 (one_at row)) 0 }
     ensures below { (r : ℕ) → set_of context.new 2 r ≡ set_of context.old 2 r }
+    ensures holds { (n : Node) → node_of context.old 3 row ≡ Some n → (d r : ℕ) → holds_of context.new d r + at_depth 3 (one_at row) d r ≡ holds_of context.old d r + at_depth 2 (edges_of n) d r }
 {
     context.is_kept();
     match context.open(Held::<L3>::of_edge(Edge::Node(row))) {

@@ -19,6 +19,7 @@ use Rattle.trie_change.specs.FigureLaws.{has_size}
 use Rattle.trie_change.specs.PairLaws.{if_ok, on_err, small_after}
 use Rattle.trie_change.specs.PartLaws.{are_parts, full_form, whole_is}
 use Rattle.trie_reopen.proofs.TripleTurns.{starts, changes_one, first_held, may_change, node_held, stored}
+use Rattle.trie_reopen.proofs.SharedLemmas.{starts_shared, turned_by}
 use Rattle.trie_reopen.proofs.Unmoved.{err_then}
 use Rattle.trie_reopen.proofs.graph.reopen_triples.Goals as goal
 
@@ -41,7 +42,7 @@ replace_triple_map-requires-clause-entries g c =
     let l1 = c.open_triples.new.log.steps in
     let s1 = starts g.M.Mix.mixed t0 l0 row a b e c.in_ok-first.ensures.first c.in_ok-first.ensures.second c.in_ok-first.ensures.third c.in_ok-first.ensures.edges t1 l1
     (subst (λ l. (n : Node) × (node_of t0 3 row ≡ Some n) × IsLogged g.M.Mix.mixed t0 t1 l l1 (at_depth 2 (edges_of n)) (at_depth 3 (one_at row)) 0) c.in_ok-reserve.ensures.same c.open_triples.ensures.opened) c.open_triples.ensures.below in
-    may_change g.M.Mix.mixed t0 l0 row c.args.change t1 l1 H B 0 a H 1 b H 2 e 0 s1 c.deref.result.now (λ k. ap (λ ts. slice nat_cmp (set_of_entries trip_tuple ts) 0 k) c.deref.ensures.value ∙ c.in_ok-by_first.ensures.slices k) (search rules) c.requires.batch.change
+    may_change g.M.Mix.mixed t0 l0 row c.args.change t1 l1 H B 0 a H 1 b H 2 e 0 s1 c.in_ok-by_first.by_first.items c.in_ok-by_first.ensures.slices c.in_ok-by_first.ensures.sorted c.requires.batch.change
 
 pub replace_triple_map-requires-clause-size : goal.replace_triple_map-requires-clause-size
 replace_triple_map-requires-clause-size g c =
@@ -58,7 +59,7 @@ replace_triple_map-requires-clause-size g c =
     let l1 = c.open_triples.new.log.steps in
     let s1 = starts g.M.Mix.mixed t0 l0 row a b e c.in_ok-first.ensures.first c.in_ok-first.ensures.second c.in_ok-first.ensures.third c.in_ok-first.ensures.edges t1 l1
     (subst (λ l. (n : Node) × (node_of t0 3 row ≡ Some n) × IsLogged g.M.Mix.mixed t0 t1 l l1 (at_depth 2 (edges_of n)) (at_depth 3 (one_at row)) 0) c.in_ok-reserve.ensures.same c.open_triples.ensures.opened) c.open_triples.ensures.below in
-    small_after c.args.change t1 2 H B 0 a (set_of_entries trip_tuple c.deref.result.now) s1.one (λ k. ap (λ ts. slice nat_cmp (set_of_entries trip_tuple ts) 0 k) c.deref.ensures.value ∙ c.in_ok-by_first.ensures.slices k) c.requires.batch.size
+    small_after c.args.change t1 2 H B 0 a (set_of_entries trip_tuple c.in_ok-by_first.by_first.items) s1.one c.in_ok-by_first.ensures.slices c.requires.batch.size
 
 pub replace_triple_map-requires-clause-held : goal.replace_triple_map-requires-clause-held
 replace_triple_map-requires-clause-held g c =
@@ -92,7 +93,7 @@ replace_triple_map-requires-clause-room g c d r =
     let l1 = c.open_triples.new.log.steps in
     let s1 = starts g.M.Mix.mixed t0 l0 row a b e c.in_ok-first.ensures.first c.in_ok-first.ensures.second c.in_ok-first.ensures.third c.in_ok-first.ensures.edges t1 l1
     (subst (λ l. (n : Node) × (node_of t0 3 row ≡ Some n) × IsLogged g.M.Mix.mixed t0 t1 l l1 (at_depth 2 (edges_of n)) (at_depth 3 (one_at row)) 0) c.in_ok-reserve.ensures.same c.open_triples.ensures.opened) c.open_triples.ensures.below in
-    let many0 : length c.deref.result.now ≡ length c.args.batch.now = ap length c.deref.ensures.value ∙ c.in_ok-by_first.ensures.len in
+    let many0 : length c.in_ok-by_first.by_first.items ≡ length c.args.batch.now = c.in_ok-by_first.ensures.len in
     omega (arith, c.requires.room d r, s1.logged.counts d r, many0)
 
 pub returns-in_err-by_first-clause-grew : goal.returns-in_err-by_first-clause-grew
@@ -146,10 +147,10 @@ replace_triple_map-requires-2-clause-entries g c =
     (subst (λ l. (n : Node) × (node_of t0 3 row ≡ Some n) × IsLogged g.M.Mix.mixed t0 t1 l l1 (at_depth 2 (edges_of n)) (at_depth 3 (one_at row)) 0) c.in_ok-reserve.ensures.same c.open_triples.ensures.opened) c.open_triples.ensures.below in
     let t2 = c.replace_triple_map.new.context in
     let l2 = c.replace_triple_map.new.log.steps in
-    let n = run_room c.deref.result.now in
-    let s2 = changes_one g.M.Mix.mixed t0 l0 row c.args.change t1 l1 H B 0 a H 1 b H 2 e 0 s1 (set_of_entries trip_tuple c.deref.result.now) (λ k. ap (λ ts. slice nat_cmp (set_of_entries trip_tuple ts) 0 k) c.deref.ensures.value ∙ c.in_ok-by_first.ensures.slices k)
+    let n = run_room c.in_ok-by_first.by_first.items in
+    let s2 = changes_one g.M.Mix.mixed t0 l0 row c.args.change t1 l1 H B 0 a H 1 b H 2 e 0 s1 (set_of_entries trip_tuple c.in_ok-by_first.by_first.items) c.in_ok-by_first.ensures.slices
     t2 l2 c.in_ok-one.one n c.in_ok-one.ensures.logged c.in_ok-one.ensures.changed n (omega arith) in
-    may_change g.M.Mix.mixed t0 l0 row c.args.change t2 l2 H B 1 b H 2 e G 0 c.in_ok-one.one n s2 c.deref-2.result.now (λ k. ap (λ ts. slice nat_cmp (set_of_entries trip_tuple ts) 0 k) c.deref-2.ensures.value ∙ c.in_ok-by_second.ensures.slices k) (search rules) c.requires.batch.change
+    may_change g.M.Mix.mixed t0 l0 row c.args.change t2 l2 H B 1 b H 2 e G 0 c.in_ok-one.one n s2 c.in_ok-by_second.by_second.items c.in_ok-by_second.ensures.slices c.in_ok-by_second.ensures.sorted c.requires.batch.change
 
 pub replace_triple_map-requires-2-clause-size : goal.replace_triple_map-requires-2-clause-size
 replace_triple_map-requires-2-clause-size g c =
@@ -168,10 +169,10 @@ replace_triple_map-requires-2-clause-size g c =
     (subst (λ l. (n : Node) × (node_of t0 3 row ≡ Some n) × IsLogged g.M.Mix.mixed t0 t1 l l1 (at_depth 2 (edges_of n)) (at_depth 3 (one_at row)) 0) c.in_ok-reserve.ensures.same c.open_triples.ensures.opened) c.open_triples.ensures.below in
     let t2 = c.replace_triple_map.new.context in
     let l2 = c.replace_triple_map.new.log.steps in
-    let n = run_room c.deref.result.now in
-    let s2 = changes_one g.M.Mix.mixed t0 l0 row c.args.change t1 l1 H B 0 a H 1 b H 2 e 0 s1 (set_of_entries trip_tuple c.deref.result.now) (λ k. ap (λ ts. slice nat_cmp (set_of_entries trip_tuple ts) 0 k) c.deref.ensures.value ∙ c.in_ok-by_first.ensures.slices k)
+    let n = run_room c.in_ok-by_first.by_first.items in
+    let s2 = changes_one g.M.Mix.mixed t0 l0 row c.args.change t1 l1 H B 0 a H 1 b H 2 e 0 s1 (set_of_entries trip_tuple c.in_ok-by_first.by_first.items) c.in_ok-by_first.ensures.slices
     t2 l2 c.in_ok-one.one n c.in_ok-one.ensures.logged c.in_ok-one.ensures.changed n (omega arith) in
-    small_after c.args.change t2 2 H B 1 b (set_of_entries trip_tuple c.deref-2.result.now) s2.one (λ k. ap (λ ts. slice nat_cmp (set_of_entries trip_tuple ts) 0 k) c.deref-2.ensures.value ∙ c.in_ok-by_second.ensures.slices k) c.requires.batch.size
+    small_after c.args.change t2 2 H B 1 b (set_of_entries trip_tuple c.in_ok-by_second.by_second.items) s2.one c.in_ok-by_second.ensures.slices c.requires.batch.size
 
 pub replace_triple_map-requires-2-clause-held : goal.replace_triple_map-requires-2-clause-held
 replace_triple_map-requires-2-clause-held g c =
@@ -190,8 +191,8 @@ replace_triple_map-requires-2-clause-held g c =
     (subst (λ l. (n : Node) × (node_of t0 3 row ≡ Some n) × IsLogged g.M.Mix.mixed t0 t1 l l1 (at_depth 2 (edges_of n)) (at_depth 3 (one_at row)) 0) c.in_ok-reserve.ensures.same c.open_triples.ensures.opened) c.open_triples.ensures.below in
     let t2 = c.replace_triple_map.new.context in
     let l2 = c.replace_triple_map.new.log.steps in
-    let n = run_room c.deref.result.now in
-    let s2 = changes_one g.M.Mix.mixed t0 l0 row c.args.change t1 l1 H B 0 a H 1 b H 2 e 0 s1 (set_of_entries trip_tuple c.deref.result.now) (λ k. ap (λ ts. slice nat_cmp (set_of_entries trip_tuple ts) 0 k) c.deref.ensures.value ∙ c.in_ok-by_first.ensures.slices k)
+    let n = run_room c.in_ok-by_first.by_first.items in
+    let s2 = changes_one g.M.Mix.mixed t0 l0 row c.args.change t1 l1 H B 0 a H 1 b H 2 e 0 s1 (set_of_entries trip_tuple c.in_ok-by_first.by_first.items) c.in_ok-by_first.ensures.slices
     t2 l2 c.in_ok-one.one n c.in_ok-one.ensures.logged c.in_ok-one.ensures.changed n (omega arith) in
     first_held g.M.Mix.mixed t0 l0 row c.args.change t2 l2 H B 1 b H 2 e G 0 c.in_ok-one.one n s2
 
@@ -212,11 +213,11 @@ replace_triple_map-requires-2-clause-room g c d r =
     (subst (λ l. (n : Node) × (node_of t0 3 row ≡ Some n) × IsLogged g.M.Mix.mixed t0 t1 l l1 (at_depth 2 (edges_of n)) (at_depth 3 (one_at row)) 0) c.in_ok-reserve.ensures.same c.open_triples.ensures.opened) c.open_triples.ensures.below in
     let t2 = c.replace_triple_map.new.context in
     let l2 = c.replace_triple_map.new.log.steps in
-    let n = run_room c.deref.result.now in
-    let s2 = changes_one g.M.Mix.mixed t0 l0 row c.args.change t1 l1 H B 0 a H 1 b H 2 e 0 s1 (set_of_entries trip_tuple c.deref.result.now) (λ k. ap (λ ts. slice nat_cmp (set_of_entries trip_tuple ts) 0 k) c.deref.ensures.value ∙ c.in_ok-by_first.ensures.slices k)
+    let n = run_room c.in_ok-by_first.by_first.items in
+    let s2 = changes_one g.M.Mix.mixed t0 l0 row c.args.change t1 l1 H B 0 a H 1 b H 2 e 0 s1 (set_of_entries trip_tuple c.in_ok-by_first.by_first.items) c.in_ok-by_first.ensures.slices
     t2 l2 c.in_ok-one.one n c.in_ok-one.ensures.logged c.in_ok-one.ensures.changed n (omega arith) in
-    let many0 : length c.deref.result.now ≡ length c.args.batch.now = ap length c.deref.ensures.value ∙ c.in_ok-by_first.ensures.len in
-    let many1 : length c.deref-2.result.now ≡ length c.args.batch.now = ap length c.deref-2.ensures.value ∙ c.in_ok-by_second.ensures.len in
+    let many0 : length c.in_ok-by_first.by_first.items ≡ length c.args.batch.now = c.in_ok-by_first.ensures.len in
+    let many1 : length c.in_ok-by_second.by_second.items ≡ length c.args.batch.now = c.in_ok-by_second.ensures.len in
     omega (arith, c.requires.room d r, s2.logged.counts d r, many0, many1)
 
 pub returns-in_err-by_second-clause-grew : goal.returns-in_err-by_second-clause-grew
@@ -236,8 +237,8 @@ returns-in_err-by_second-clause-grew g c =
     (subst (λ l. (n : Node) × (node_of t0 3 row ≡ Some n) × IsLogged g.M.Mix.mixed t0 t1 l l1 (at_depth 2 (edges_of n)) (at_depth 3 (one_at row)) 0) c.in_ok-reserve.ensures.same c.open_triples.ensures.opened) c.open_triples.ensures.below in
     let t2 = c.replace_triple_map.new.context in
     let l2 = c.replace_triple_map.new.log.steps in
-    let n = run_room c.deref.result.now in
-    let s2 = changes_one g.M.Mix.mixed t0 l0 row c.args.change t1 l1 H B 0 a H 1 b H 2 e 0 s1 (set_of_entries trip_tuple c.deref.result.now) (λ k. ap (λ ts. slice nat_cmp (set_of_entries trip_tuple ts) 0 k) c.deref.ensures.value ∙ c.in_ok-by_first.ensures.slices k)
+    let n = run_room c.in_ok-by_first.by_first.items in
+    let s2 = changes_one g.M.Mix.mixed t0 l0 row c.args.change t1 l1 H B 0 a H 1 b H 2 e 0 s1 (set_of_entries trip_tuple c.in_ok-by_first.by_first.items) c.in_ok-by_first.ensures.slices
     t2 l2 c.in_ok-one.one n c.in_ok-one.ensures.logged c.in_ok-one.ensures.changed n (omega arith) in
     on_err _ c.from_residual-in_err-by_second.result s2.logged.grew
 
@@ -258,8 +259,8 @@ returns-in_err-two-clause-grew g c =
     (subst (λ l. (n : Node) × (node_of t0 3 row ≡ Some n) × IsLogged g.M.Mix.mixed t0 t1 l l1 (at_depth 2 (edges_of n)) (at_depth 3 (one_at row)) 0) c.in_ok-reserve.ensures.same c.open_triples.ensures.opened) c.open_triples.ensures.below in
     let t2 = c.replace_triple_map.new.context in
     let l2 = c.replace_triple_map.new.log.steps in
-    let n = run_room c.deref.result.now in
-    let s2 = changes_one g.M.Mix.mixed t0 l0 row c.args.change t1 l1 H B 0 a H 1 b H 2 e 0 s1 (set_of_entries trip_tuple c.deref.result.now) (λ k. ap (λ ts. slice nat_cmp (set_of_entries trip_tuple ts) 0 k) c.deref.ensures.value ∙ c.in_ok-by_first.ensures.slices k)
+    let n = run_room c.in_ok-by_first.by_first.items in
+    let s2 = changes_one g.M.Mix.mixed t0 l0 row c.args.change t1 l1 H B 0 a H 1 b H 2 e 0 s1 (set_of_entries trip_tuple c.in_ok-by_first.by_first.items) c.in_ok-by_first.ensures.slices
     t2 l2 c.in_ok-one.one n c.in_ok-one.ensures.logged c.in_ok-one.ensures.changed n (omega arith) in
     on_err _ c.from_residual-in_err-two.result (grows_on g.M.Mix.mixed t0 t2 c.replace_triple_map-2.new.context l0 l2 c.replace_triple_map-2.new.log.steps s2.logged.grew c.in_err-two.ensures.grew)
 
@@ -280,15 +281,15 @@ replace_triple_map-requires-3-clause-entries g c =
     (subst (λ l. (n : Node) × (node_of t0 3 row ≡ Some n) × IsLogged g.M.Mix.mixed t0 t1 l l1 (at_depth 2 (edges_of n)) (at_depth 3 (one_at row)) 0) c.in_ok-reserve.ensures.same c.open_triples.ensures.opened) c.open_triples.ensures.below in
     let t2 = c.replace_triple_map.new.context in
     let l2 = c.replace_triple_map.new.log.steps in
-    let n = run_room c.deref.result.now in
-    let s2 = changes_one g.M.Mix.mixed t0 l0 row c.args.change t1 l1 H B 0 a H 1 b H 2 e 0 s1 (set_of_entries trip_tuple c.deref.result.now) (λ k. ap (λ ts. slice nat_cmp (set_of_entries trip_tuple ts) 0 k) c.deref.ensures.value ∙ c.in_ok-by_first.ensures.slices k)
+    let n = run_room c.in_ok-by_first.by_first.items in
+    let s2 = changes_one g.M.Mix.mixed t0 l0 row c.args.change t1 l1 H B 0 a H 1 b H 2 e 0 s1 (set_of_entries trip_tuple c.in_ok-by_first.by_first.items) c.in_ok-by_first.ensures.slices
     t2 l2 c.in_ok-one.one n c.in_ok-one.ensures.logged c.in_ok-one.ensures.changed n (omega arith) in
     let t3 = c.replace_triple_map-2.new.context in
     let l3 = c.replace_triple_map-2.new.log.steps in
-    let m = run_room c.deref-2.result.now in
-    let s3 = changes_one g.M.Mix.mixed t0 l0 row c.args.change t2 l2 H B 1 b H 2 e G 0 c.in_ok-one.one n s2 (set_of_entries trip_tuple c.deref-2.result.now) (λ k. ap (λ ts. slice nat_cmp (set_of_entries trip_tuple ts) 0 k) c.deref-2.ensures.value ∙ c.in_ok-by_second.ensures.slices k)
+    let m = run_room c.in_ok-by_second.by_second.items in
+    let s3 = changes_one g.M.Mix.mixed t0 l0 row c.args.change t2 l2 H B 1 b H 2 e G 0 c.in_ok-one.one n s2 (set_of_entries trip_tuple c.in_ok-by_second.by_second.items) c.in_ok-by_second.ensures.slices
     t3 l3 c.in_ok-two.two m c.in_ok-two.ensures.logged c.in_ok-two.ensures.changed (n + m) (omega arith) in
-    may_change g.M.Mix.mixed t0 l0 row c.args.change t3 l3 H B 2 e G 0 c.in_ok-one.one G 1 c.in_ok-two.two (n + m) s3 c.deref-3.result.now (λ k. ap (λ ts. slice nat_cmp (set_of_entries trip_tuple ts) 0 k) c.deref-3.ensures.value ∙ c.in_ok-by_third.ensures.slices k) (search rules) c.requires.batch.change
+    may_change g.M.Mix.mixed t0 l0 row c.args.change t3 l3 H B 2 e G 0 c.in_ok-one.one G 1 c.in_ok-two.two (n + m) s3 c.in_ok-by_third.by_third.items c.in_ok-by_third.ensures.slices c.in_ok-by_third.ensures.sorted c.requires.batch.change
 
 pub replace_triple_map-requires-3-clause-size : goal.replace_triple_map-requires-3-clause-size
 replace_triple_map-requires-3-clause-size g c =
@@ -307,15 +308,15 @@ replace_triple_map-requires-3-clause-size g c =
     (subst (λ l. (n : Node) × (node_of t0 3 row ≡ Some n) × IsLogged g.M.Mix.mixed t0 t1 l l1 (at_depth 2 (edges_of n)) (at_depth 3 (one_at row)) 0) c.in_ok-reserve.ensures.same c.open_triples.ensures.opened) c.open_triples.ensures.below in
     let t2 = c.replace_triple_map.new.context in
     let l2 = c.replace_triple_map.new.log.steps in
-    let n = run_room c.deref.result.now in
-    let s2 = changes_one g.M.Mix.mixed t0 l0 row c.args.change t1 l1 H B 0 a H 1 b H 2 e 0 s1 (set_of_entries trip_tuple c.deref.result.now) (λ k. ap (λ ts. slice nat_cmp (set_of_entries trip_tuple ts) 0 k) c.deref.ensures.value ∙ c.in_ok-by_first.ensures.slices k)
+    let n = run_room c.in_ok-by_first.by_first.items in
+    let s2 = changes_one g.M.Mix.mixed t0 l0 row c.args.change t1 l1 H B 0 a H 1 b H 2 e 0 s1 (set_of_entries trip_tuple c.in_ok-by_first.by_first.items) c.in_ok-by_first.ensures.slices
     t2 l2 c.in_ok-one.one n c.in_ok-one.ensures.logged c.in_ok-one.ensures.changed n (omega arith) in
     let t3 = c.replace_triple_map-2.new.context in
     let l3 = c.replace_triple_map-2.new.log.steps in
-    let m = run_room c.deref-2.result.now in
-    let s3 = changes_one g.M.Mix.mixed t0 l0 row c.args.change t2 l2 H B 1 b H 2 e G 0 c.in_ok-one.one n s2 (set_of_entries trip_tuple c.deref-2.result.now) (λ k. ap (λ ts. slice nat_cmp (set_of_entries trip_tuple ts) 0 k) c.deref-2.ensures.value ∙ c.in_ok-by_second.ensures.slices k)
+    let m = run_room c.in_ok-by_second.by_second.items in
+    let s3 = changes_one g.M.Mix.mixed t0 l0 row c.args.change t2 l2 H B 1 b H 2 e G 0 c.in_ok-one.one n s2 (set_of_entries trip_tuple c.in_ok-by_second.by_second.items) c.in_ok-by_second.ensures.slices
     t3 l3 c.in_ok-two.two m c.in_ok-two.ensures.logged c.in_ok-two.ensures.changed (n + m) (omega arith) in
-    small_after c.args.change t3 2 H B 2 e (set_of_entries trip_tuple c.deref-3.result.now) s3.one (λ k. ap (λ ts. slice nat_cmp (set_of_entries trip_tuple ts) 0 k) c.deref-3.ensures.value ∙ c.in_ok-by_third.ensures.slices k) c.requires.batch.size
+    small_after c.args.change t3 2 H B 2 e (set_of_entries trip_tuple c.in_ok-by_third.by_third.items) s3.one c.in_ok-by_third.ensures.slices c.requires.batch.size
 
 pub replace_triple_map-requires-3-clause-held : goal.replace_triple_map-requires-3-clause-held
 replace_triple_map-requires-3-clause-held g c =
@@ -334,13 +335,13 @@ replace_triple_map-requires-3-clause-held g c =
     (subst (λ l. (n : Node) × (node_of t0 3 row ≡ Some n) × IsLogged g.M.Mix.mixed t0 t1 l l1 (at_depth 2 (edges_of n)) (at_depth 3 (one_at row)) 0) c.in_ok-reserve.ensures.same c.open_triples.ensures.opened) c.open_triples.ensures.below in
     let t2 = c.replace_triple_map.new.context in
     let l2 = c.replace_triple_map.new.log.steps in
-    let n = run_room c.deref.result.now in
-    let s2 = changes_one g.M.Mix.mixed t0 l0 row c.args.change t1 l1 H B 0 a H 1 b H 2 e 0 s1 (set_of_entries trip_tuple c.deref.result.now) (λ k. ap (λ ts. slice nat_cmp (set_of_entries trip_tuple ts) 0 k) c.deref.ensures.value ∙ c.in_ok-by_first.ensures.slices k)
+    let n = run_room c.in_ok-by_first.by_first.items in
+    let s2 = changes_one g.M.Mix.mixed t0 l0 row c.args.change t1 l1 H B 0 a H 1 b H 2 e 0 s1 (set_of_entries trip_tuple c.in_ok-by_first.by_first.items) c.in_ok-by_first.ensures.slices
     t2 l2 c.in_ok-one.one n c.in_ok-one.ensures.logged c.in_ok-one.ensures.changed n (omega arith) in
     let t3 = c.replace_triple_map-2.new.context in
     let l3 = c.replace_triple_map-2.new.log.steps in
-    let m = run_room c.deref-2.result.now in
-    let s3 = changes_one g.M.Mix.mixed t0 l0 row c.args.change t2 l2 H B 1 b H 2 e G 0 c.in_ok-one.one n s2 (set_of_entries trip_tuple c.deref-2.result.now) (λ k. ap (λ ts. slice nat_cmp (set_of_entries trip_tuple ts) 0 k) c.deref-2.ensures.value ∙ c.in_ok-by_second.ensures.slices k)
+    let m = run_room c.in_ok-by_second.by_second.items in
+    let s3 = changes_one g.M.Mix.mixed t0 l0 row c.args.change t2 l2 H B 1 b H 2 e G 0 c.in_ok-one.one n s2 (set_of_entries trip_tuple c.in_ok-by_second.by_second.items) c.in_ok-by_second.ensures.slices
     t3 l3 c.in_ok-two.two m c.in_ok-two.ensures.logged c.in_ok-two.ensures.changed (n + m) (omega arith) in
     first_held g.M.Mix.mixed t0 l0 row c.args.change t3 l3 H B 2 e G 0 c.in_ok-one.one G 1 c.in_ok-two.two (n + m) s3
 
@@ -361,17 +362,17 @@ replace_triple_map-requires-3-clause-room g c d r =
     (subst (λ l. (n : Node) × (node_of t0 3 row ≡ Some n) × IsLogged g.M.Mix.mixed t0 t1 l l1 (at_depth 2 (edges_of n)) (at_depth 3 (one_at row)) 0) c.in_ok-reserve.ensures.same c.open_triples.ensures.opened) c.open_triples.ensures.below in
     let t2 = c.replace_triple_map.new.context in
     let l2 = c.replace_triple_map.new.log.steps in
-    let n = run_room c.deref.result.now in
-    let s2 = changes_one g.M.Mix.mixed t0 l0 row c.args.change t1 l1 H B 0 a H 1 b H 2 e 0 s1 (set_of_entries trip_tuple c.deref.result.now) (λ k. ap (λ ts. slice nat_cmp (set_of_entries trip_tuple ts) 0 k) c.deref.ensures.value ∙ c.in_ok-by_first.ensures.slices k)
+    let n = run_room c.in_ok-by_first.by_first.items in
+    let s2 = changes_one g.M.Mix.mixed t0 l0 row c.args.change t1 l1 H B 0 a H 1 b H 2 e 0 s1 (set_of_entries trip_tuple c.in_ok-by_first.by_first.items) c.in_ok-by_first.ensures.slices
     t2 l2 c.in_ok-one.one n c.in_ok-one.ensures.logged c.in_ok-one.ensures.changed n (omega arith) in
     let t3 = c.replace_triple_map-2.new.context in
     let l3 = c.replace_triple_map-2.new.log.steps in
-    let m = run_room c.deref-2.result.now in
-    let s3 = changes_one g.M.Mix.mixed t0 l0 row c.args.change t2 l2 H B 1 b H 2 e G 0 c.in_ok-one.one n s2 (set_of_entries trip_tuple c.deref-2.result.now) (λ k. ap (λ ts. slice nat_cmp (set_of_entries trip_tuple ts) 0 k) c.deref-2.ensures.value ∙ c.in_ok-by_second.ensures.slices k)
+    let m = run_room c.in_ok-by_second.by_second.items in
+    let s3 = changes_one g.M.Mix.mixed t0 l0 row c.args.change t2 l2 H B 1 b H 2 e G 0 c.in_ok-one.one n s2 (set_of_entries trip_tuple c.in_ok-by_second.by_second.items) c.in_ok-by_second.ensures.slices
     t3 l3 c.in_ok-two.two m c.in_ok-two.ensures.logged c.in_ok-two.ensures.changed (n + m) (omega arith) in
-    let many0 : length c.deref.result.now ≡ length c.args.batch.now = ap length c.deref.ensures.value ∙ c.in_ok-by_first.ensures.len in
-    let many1 : length c.deref-2.result.now ≡ length c.args.batch.now = ap length c.deref-2.ensures.value ∙ c.in_ok-by_second.ensures.len in
-    let many2 : length c.deref-3.result.now ≡ length c.args.batch.now = ap length c.deref-3.ensures.value ∙ c.in_ok-by_third.ensures.len in
+    let many0 : length c.in_ok-by_first.by_first.items ≡ length c.args.batch.now = c.in_ok-by_first.ensures.len in
+    let many1 : length c.in_ok-by_second.by_second.items ≡ length c.args.batch.now = c.in_ok-by_second.ensures.len in
+    let many2 : length c.in_ok-by_third.by_third.items ≡ length c.args.batch.now = c.in_ok-by_third.ensures.len in
     omega (arith, c.requires.room d r, s3.logged.counts d r, many0, many1, many2)
 
 pub returns-in_err-by_third-clause-grew : goal.returns-in_err-by_third-clause-grew
@@ -391,13 +392,13 @@ returns-in_err-by_third-clause-grew g c =
     (subst (λ l. (n : Node) × (node_of t0 3 row ≡ Some n) × IsLogged g.M.Mix.mixed t0 t1 l l1 (at_depth 2 (edges_of n)) (at_depth 3 (one_at row)) 0) c.in_ok-reserve.ensures.same c.open_triples.ensures.opened) c.open_triples.ensures.below in
     let t2 = c.replace_triple_map.new.context in
     let l2 = c.replace_triple_map.new.log.steps in
-    let n = run_room c.deref.result.now in
-    let s2 = changes_one g.M.Mix.mixed t0 l0 row c.args.change t1 l1 H B 0 a H 1 b H 2 e 0 s1 (set_of_entries trip_tuple c.deref.result.now) (λ k. ap (λ ts. slice nat_cmp (set_of_entries trip_tuple ts) 0 k) c.deref.ensures.value ∙ c.in_ok-by_first.ensures.slices k)
+    let n = run_room c.in_ok-by_first.by_first.items in
+    let s2 = changes_one g.M.Mix.mixed t0 l0 row c.args.change t1 l1 H B 0 a H 1 b H 2 e 0 s1 (set_of_entries trip_tuple c.in_ok-by_first.by_first.items) c.in_ok-by_first.ensures.slices
     t2 l2 c.in_ok-one.one n c.in_ok-one.ensures.logged c.in_ok-one.ensures.changed n (omega arith) in
     let t3 = c.replace_triple_map-2.new.context in
     let l3 = c.replace_triple_map-2.new.log.steps in
-    let m = run_room c.deref-2.result.now in
-    let s3 = changes_one g.M.Mix.mixed t0 l0 row c.args.change t2 l2 H B 1 b H 2 e G 0 c.in_ok-one.one n s2 (set_of_entries trip_tuple c.deref-2.result.now) (λ k. ap (λ ts. slice nat_cmp (set_of_entries trip_tuple ts) 0 k) c.deref-2.ensures.value ∙ c.in_ok-by_second.ensures.slices k)
+    let m = run_room c.in_ok-by_second.by_second.items in
+    let s3 = changes_one g.M.Mix.mixed t0 l0 row c.args.change t2 l2 H B 1 b H 2 e G 0 c.in_ok-one.one n s2 (set_of_entries trip_tuple c.in_ok-by_second.by_second.items) c.in_ok-by_second.ensures.slices
     t3 l3 c.in_ok-two.two m c.in_ok-two.ensures.logged c.in_ok-two.ensures.changed (n + m) (omega arith) in
     on_err _ c.from_residual-in_err-by_third.result s3.logged.grew
 
@@ -418,13 +419,13 @@ returns-in_err-three-clause-grew g c =
     (subst (λ l. (n : Node) × (node_of t0 3 row ≡ Some n) × IsLogged g.M.Mix.mixed t0 t1 l l1 (at_depth 2 (edges_of n)) (at_depth 3 (one_at row)) 0) c.in_ok-reserve.ensures.same c.open_triples.ensures.opened) c.open_triples.ensures.below in
     let t2 = c.replace_triple_map.new.context in
     let l2 = c.replace_triple_map.new.log.steps in
-    let n = run_room c.deref.result.now in
-    let s2 = changes_one g.M.Mix.mixed t0 l0 row c.args.change t1 l1 H B 0 a H 1 b H 2 e 0 s1 (set_of_entries trip_tuple c.deref.result.now) (λ k. ap (λ ts. slice nat_cmp (set_of_entries trip_tuple ts) 0 k) c.deref.ensures.value ∙ c.in_ok-by_first.ensures.slices k)
+    let n = run_room c.in_ok-by_first.by_first.items in
+    let s2 = changes_one g.M.Mix.mixed t0 l0 row c.args.change t1 l1 H B 0 a H 1 b H 2 e 0 s1 (set_of_entries trip_tuple c.in_ok-by_first.by_first.items) c.in_ok-by_first.ensures.slices
     t2 l2 c.in_ok-one.one n c.in_ok-one.ensures.logged c.in_ok-one.ensures.changed n (omega arith) in
     let t3 = c.replace_triple_map-2.new.context in
     let l3 = c.replace_triple_map-2.new.log.steps in
-    let m = run_room c.deref-2.result.now in
-    let s3 = changes_one g.M.Mix.mixed t0 l0 row c.args.change t2 l2 H B 1 b H 2 e G 0 c.in_ok-one.one n s2 (set_of_entries trip_tuple c.deref-2.result.now) (λ k. ap (λ ts. slice nat_cmp (set_of_entries trip_tuple ts) 0 k) c.deref-2.ensures.value ∙ c.in_ok-by_second.ensures.slices k)
+    let m = run_room c.in_ok-by_second.by_second.items in
+    let s3 = changes_one g.M.Mix.mixed t0 l0 row c.args.change t2 l2 H B 1 b H 2 e G 0 c.in_ok-one.one n s2 (set_of_entries trip_tuple c.in_ok-by_second.by_second.items) c.in_ok-by_second.ensures.slices
     t3 l3 c.in_ok-two.two m c.in_ok-two.ensures.logged c.in_ok-two.ensures.changed (n + m) (omega arith) in
     on_err _ c.from_residual-in_err-three.result (grows_on g.M.Mix.mixed t0 t3 c.replace_triple_map-3.new.context l0 l3 c.replace_triple_map-3.new.log.steps s3.logged.grew c.in_err-three.ensures.grew)
 
@@ -445,18 +446,18 @@ store_triples-requires-clause-form g c =
     (subst (λ l. (n : Node) × (node_of t0 3 row ≡ Some n) × IsLogged g.M.Mix.mixed t0 t1 l l1 (at_depth 2 (edges_of n)) (at_depth 3 (one_at row)) 0) c.in_ok-reserve.ensures.same c.open_triples.ensures.opened) c.open_triples.ensures.below in
     let t2 = c.replace_triple_map.new.context in
     let l2 = c.replace_triple_map.new.log.steps in
-    let n = run_room c.deref.result.now in
-    let s2 = changes_one g.M.Mix.mixed t0 l0 row c.args.change t1 l1 H B 0 a H 1 b H 2 e 0 s1 (set_of_entries trip_tuple c.deref.result.now) (λ k. ap (λ ts. slice nat_cmp (set_of_entries trip_tuple ts) 0 k) c.deref.ensures.value ∙ c.in_ok-by_first.ensures.slices k)
+    let n = run_room c.in_ok-by_first.by_first.items in
+    let s2 = changes_one g.M.Mix.mixed t0 l0 row c.args.change t1 l1 H B 0 a H 1 b H 2 e 0 s1 (set_of_entries trip_tuple c.in_ok-by_first.by_first.items) c.in_ok-by_first.ensures.slices
     t2 l2 c.in_ok-one.one n c.in_ok-one.ensures.logged c.in_ok-one.ensures.changed n (omega arith) in
     let t3 = c.replace_triple_map-2.new.context in
     let l3 = c.replace_triple_map-2.new.log.steps in
-    let m = run_room c.deref-2.result.now in
-    let s3 = changes_one g.M.Mix.mixed t0 l0 row c.args.change t2 l2 H B 1 b H 2 e G 0 c.in_ok-one.one n s2 (set_of_entries trip_tuple c.deref-2.result.now) (λ k. ap (λ ts. slice nat_cmp (set_of_entries trip_tuple ts) 0 k) c.deref-2.ensures.value ∙ c.in_ok-by_second.ensures.slices k)
+    let m = run_room c.in_ok-by_second.by_second.items in
+    let s3 = changes_one g.M.Mix.mixed t0 l0 row c.args.change t2 l2 H B 1 b H 2 e G 0 c.in_ok-one.one n s2 (set_of_entries trip_tuple c.in_ok-by_second.by_second.items) c.in_ok-by_second.ensures.slices
     t3 l3 c.in_ok-two.two m c.in_ok-two.ensures.logged c.in_ok-two.ensures.changed (n + m) (omega arith) in
     let t4 = c.replace_triple_map-3.new.context in
     let l4 = c.replace_triple_map-3.new.log.steps in
-    let k = run_room c.deref-3.result.now in
-    let s4 = changes_one g.M.Mix.mixed t0 l0 row c.args.change t3 l3 H B 2 e G 0 c.in_ok-one.one G 1 c.in_ok-two.two (n + m) s3 (set_of_entries trip_tuple c.deref-3.result.now) (λ k. ap (λ ts. slice nat_cmp (set_of_entries trip_tuple ts) 0 k) c.deref-3.ensures.value ∙ c.in_ok-by_third.ensures.slices k)
+    let k = run_room c.in_ok-by_third.by_third.items in
+    let s4 = changes_one g.M.Mix.mixed t0 l0 row c.args.change t3 l3 H B 2 e G 0 c.in_ok-one.one G 1 c.in_ok-two.two (n + m) s3 (set_of_entries trip_tuple c.in_ok-by_third.by_third.items) c.in_ok-by_third.ensures.slices
     t4 l4 c.in_ok-three.three k c.in_ok-three.ensures.logged c.in_ok-three.ensures.changed (n + m + k) (omega arith) in
     let parts = are_parts c.is_kept.ensures c.args.change (Some row) c.args.batch.now c.requires.batch.once c.requires.batch.change t4 c.triple_figures-size.result.0 c.triple_figures-size.result.1 c.changed_size-size.result c.toggled_triples-hash.result c.in_ok-one.one c.in_ok-two.two c.in_ok-three.three
     c.triple_figures-size.ensures.size c.triple_figures-size.ensures.hash c.changed_size-size.ensures c.toggled_triples-hash.ensures s4.one s4.two s4.three in
@@ -479,18 +480,18 @@ store_triples-requires-clause-held g c =
     (subst (λ l. (n : Node) × (node_of t0 3 row ≡ Some n) × IsLogged g.M.Mix.mixed t0 t1 l l1 (at_depth 2 (edges_of n)) (at_depth 3 (one_at row)) 0) c.in_ok-reserve.ensures.same c.open_triples.ensures.opened) c.open_triples.ensures.below in
     let t2 = c.replace_triple_map.new.context in
     let l2 = c.replace_triple_map.new.log.steps in
-    let n = run_room c.deref.result.now in
-    let s2 = changes_one g.M.Mix.mixed t0 l0 row c.args.change t1 l1 H B 0 a H 1 b H 2 e 0 s1 (set_of_entries trip_tuple c.deref.result.now) (λ k. ap (λ ts. slice nat_cmp (set_of_entries trip_tuple ts) 0 k) c.deref.ensures.value ∙ c.in_ok-by_first.ensures.slices k)
+    let n = run_room c.in_ok-by_first.by_first.items in
+    let s2 = changes_one g.M.Mix.mixed t0 l0 row c.args.change t1 l1 H B 0 a H 1 b H 2 e 0 s1 (set_of_entries trip_tuple c.in_ok-by_first.by_first.items) c.in_ok-by_first.ensures.slices
     t2 l2 c.in_ok-one.one n c.in_ok-one.ensures.logged c.in_ok-one.ensures.changed n (omega arith) in
     let t3 = c.replace_triple_map-2.new.context in
     let l3 = c.replace_triple_map-2.new.log.steps in
-    let m = run_room c.deref-2.result.now in
-    let s3 = changes_one g.M.Mix.mixed t0 l0 row c.args.change t2 l2 H B 1 b H 2 e G 0 c.in_ok-one.one n s2 (set_of_entries trip_tuple c.deref-2.result.now) (λ k. ap (λ ts. slice nat_cmp (set_of_entries trip_tuple ts) 0 k) c.deref-2.ensures.value ∙ c.in_ok-by_second.ensures.slices k)
+    let m = run_room c.in_ok-by_second.by_second.items in
+    let s3 = changes_one g.M.Mix.mixed t0 l0 row c.args.change t2 l2 H B 1 b H 2 e G 0 c.in_ok-one.one n s2 (set_of_entries trip_tuple c.in_ok-by_second.by_second.items) c.in_ok-by_second.ensures.slices
     t3 l3 c.in_ok-two.two m c.in_ok-two.ensures.logged c.in_ok-two.ensures.changed (n + m) (omega arith) in
     let t4 = c.replace_triple_map-3.new.context in
     let l4 = c.replace_triple_map-3.new.log.steps in
-    let k = run_room c.deref-3.result.now in
-    let s4 = changes_one g.M.Mix.mixed t0 l0 row c.args.change t3 l3 H B 2 e G 0 c.in_ok-one.one G 1 c.in_ok-two.two (n + m) s3 (set_of_entries trip_tuple c.deref-3.result.now) (λ k. ap (λ ts. slice nat_cmp (set_of_entries trip_tuple ts) 0 k) c.deref-3.ensures.value ∙ c.in_ok-by_third.ensures.slices k)
+    let k = run_room c.in_ok-by_third.by_third.items in
+    let s4 = changes_one g.M.Mix.mixed t0 l0 row c.args.change t3 l3 H B 2 e G 0 c.in_ok-one.one G 1 c.in_ok-two.two (n + m) s3 (set_of_entries trip_tuple c.in_ok-by_third.by_third.items) c.in_ok-by_third.ensures.slices
     t4 l4 c.in_ok-three.three k c.in_ok-three.ensures.logged c.in_ok-three.ensures.changed (n + m + k) (omega arith) in
     let node = Full c.changed_size-size.result c.toggled_triples-hash.result c.in_ok-one.one c.in_ok-two.two c.in_ok-three.three in
     node_held g.M.Mix.mixed t0 l0 row t4 l4 G c.in_ok-one.one c.in_ok-two.two c.in_ok-three.three (n + m + k) s4 node (λ r. refl)
@@ -512,22 +513,22 @@ store_triples-requires-clause-room g c d r =
     (subst (λ l. (n : Node) × (node_of t0 3 row ≡ Some n) × IsLogged g.M.Mix.mixed t0 t1 l l1 (at_depth 2 (edges_of n)) (at_depth 3 (one_at row)) 0) c.in_ok-reserve.ensures.same c.open_triples.ensures.opened) c.open_triples.ensures.below in
     let t2 = c.replace_triple_map.new.context in
     let l2 = c.replace_triple_map.new.log.steps in
-    let n = run_room c.deref.result.now in
-    let s2 = changes_one g.M.Mix.mixed t0 l0 row c.args.change t1 l1 H B 0 a H 1 b H 2 e 0 s1 (set_of_entries trip_tuple c.deref.result.now) (λ k. ap (λ ts. slice nat_cmp (set_of_entries trip_tuple ts) 0 k) c.deref.ensures.value ∙ c.in_ok-by_first.ensures.slices k)
+    let n = run_room c.in_ok-by_first.by_first.items in
+    let s2 = changes_one g.M.Mix.mixed t0 l0 row c.args.change t1 l1 H B 0 a H 1 b H 2 e 0 s1 (set_of_entries trip_tuple c.in_ok-by_first.by_first.items) c.in_ok-by_first.ensures.slices
     t2 l2 c.in_ok-one.one n c.in_ok-one.ensures.logged c.in_ok-one.ensures.changed n (omega arith) in
     let t3 = c.replace_triple_map-2.new.context in
     let l3 = c.replace_triple_map-2.new.log.steps in
-    let m = run_room c.deref-2.result.now in
-    let s3 = changes_one g.M.Mix.mixed t0 l0 row c.args.change t2 l2 H B 1 b H 2 e G 0 c.in_ok-one.one n s2 (set_of_entries trip_tuple c.deref-2.result.now) (λ k. ap (λ ts. slice nat_cmp (set_of_entries trip_tuple ts) 0 k) c.deref-2.ensures.value ∙ c.in_ok-by_second.ensures.slices k)
+    let m = run_room c.in_ok-by_second.by_second.items in
+    let s3 = changes_one g.M.Mix.mixed t0 l0 row c.args.change t2 l2 H B 1 b H 2 e G 0 c.in_ok-one.one n s2 (set_of_entries trip_tuple c.in_ok-by_second.by_second.items) c.in_ok-by_second.ensures.slices
     t3 l3 c.in_ok-two.two m c.in_ok-two.ensures.logged c.in_ok-two.ensures.changed (n + m) (omega arith) in
     let t4 = c.replace_triple_map-3.new.context in
     let l4 = c.replace_triple_map-3.new.log.steps in
-    let k = run_room c.deref-3.result.now in
-    let s4 = changes_one g.M.Mix.mixed t0 l0 row c.args.change t3 l3 H B 2 e G 0 c.in_ok-one.one G 1 c.in_ok-two.two (n + m) s3 (set_of_entries trip_tuple c.deref-3.result.now) (λ k. ap (λ ts. slice nat_cmp (set_of_entries trip_tuple ts) 0 k) c.deref-3.ensures.value ∙ c.in_ok-by_third.ensures.slices k)
+    let k = run_room c.in_ok-by_third.by_third.items in
+    let s4 = changes_one g.M.Mix.mixed t0 l0 row c.args.change t3 l3 H B 2 e G 0 c.in_ok-one.one G 1 c.in_ok-two.two (n + m) s3 (set_of_entries trip_tuple c.in_ok-by_third.by_third.items) c.in_ok-by_third.ensures.slices
     t4 l4 c.in_ok-three.three k c.in_ok-three.ensures.logged c.in_ok-three.ensures.changed (n + m + k) (omega arith) in
-    let many0 : length c.deref.result.now ≡ length c.args.batch.now = ap length c.deref.ensures.value ∙ c.in_ok-by_first.ensures.len in
-    let many1 : length c.deref-2.result.now ≡ length c.args.batch.now = ap length c.deref-2.ensures.value ∙ c.in_ok-by_second.ensures.len in
-    let many2 : length c.deref-3.result.now ≡ length c.args.batch.now = ap length c.deref-3.ensures.value ∙ c.in_ok-by_third.ensures.len in
+    let many0 : length c.in_ok-by_first.by_first.items ≡ length c.args.batch.now = c.in_ok-by_first.ensures.len in
+    let many1 : length c.in_ok-by_second.by_second.items ≡ length c.args.batch.now = c.in_ok-by_second.ensures.len in
+    let many2 : length c.in_ok-by_third.by_third.items ≡ length c.args.batch.now = c.in_ok-by_third.ensures.len in
     omega (arith, c.requires.room d r, s4.logged.counts d r, many0, many1, many2)
 
 pub returns-clause-set : goal.returns-clause-set
@@ -547,18 +548,18 @@ returns-clause-set g c =
     (subst (λ l. (n : Node) × (node_of t0 3 row ≡ Some n) × IsLogged g.M.Mix.mixed t0 t1 l l1 (at_depth 2 (edges_of n)) (at_depth 3 (one_at row)) 0) c.in_ok-reserve.ensures.same c.open_triples.ensures.opened) c.open_triples.ensures.below in
     let t2 = c.replace_triple_map.new.context in
     let l2 = c.replace_triple_map.new.log.steps in
-    let n = run_room c.deref.result.now in
-    let s2 = changes_one g.M.Mix.mixed t0 l0 row c.args.change t1 l1 H B 0 a H 1 b H 2 e 0 s1 (set_of_entries trip_tuple c.deref.result.now) (λ k. ap (λ ts. slice nat_cmp (set_of_entries trip_tuple ts) 0 k) c.deref.ensures.value ∙ c.in_ok-by_first.ensures.slices k)
+    let n = run_room c.in_ok-by_first.by_first.items in
+    let s2 = changes_one g.M.Mix.mixed t0 l0 row c.args.change t1 l1 H B 0 a H 1 b H 2 e 0 s1 (set_of_entries trip_tuple c.in_ok-by_first.by_first.items) c.in_ok-by_first.ensures.slices
     t2 l2 c.in_ok-one.one n c.in_ok-one.ensures.logged c.in_ok-one.ensures.changed n (omega arith) in
     let t3 = c.replace_triple_map-2.new.context in
     let l3 = c.replace_triple_map-2.new.log.steps in
-    let m = run_room c.deref-2.result.now in
-    let s3 = changes_one g.M.Mix.mixed t0 l0 row c.args.change t2 l2 H B 1 b H 2 e G 0 c.in_ok-one.one n s2 (set_of_entries trip_tuple c.deref-2.result.now) (λ k. ap (λ ts. slice nat_cmp (set_of_entries trip_tuple ts) 0 k) c.deref-2.ensures.value ∙ c.in_ok-by_second.ensures.slices k)
+    let m = run_room c.in_ok-by_second.by_second.items in
+    let s3 = changes_one g.M.Mix.mixed t0 l0 row c.args.change t2 l2 H B 1 b H 2 e G 0 c.in_ok-one.one n s2 (set_of_entries trip_tuple c.in_ok-by_second.by_second.items) c.in_ok-by_second.ensures.slices
     t3 l3 c.in_ok-two.two m c.in_ok-two.ensures.logged c.in_ok-two.ensures.changed (n + m) (omega arith) in
     let t4 = c.replace_triple_map-3.new.context in
     let l4 = c.replace_triple_map-3.new.log.steps in
-    let k = run_room c.deref-3.result.now in
-    let s4 = changes_one g.M.Mix.mixed t0 l0 row c.args.change t3 l3 H B 2 e G 0 c.in_ok-one.one G 1 c.in_ok-two.two (n + m) s3 (set_of_entries trip_tuple c.deref-3.result.now) (λ k. ap (λ ts. slice nat_cmp (set_of_entries trip_tuple ts) 0 k) c.deref-3.ensures.value ∙ c.in_ok-by_third.ensures.slices k)
+    let k = run_room c.in_ok-by_third.by_third.items in
+    let s4 = changes_one g.M.Mix.mixed t0 l0 row c.args.change t3 l3 H B 2 e G 0 c.in_ok-one.one G 1 c.in_ok-two.two (n + m) s3 (set_of_entries trip_tuple c.in_ok-by_third.by_third.items) c.in_ok-by_third.ensures.slices
     t4 l4 c.in_ok-three.three k c.in_ok-three.ensures.logged c.in_ok-three.ensures.changed (n + m + k) (omega arith) in
     let parts = are_parts c.is_kept.ensures c.args.change (Some row) c.args.batch.now c.requires.batch.once c.requires.batch.change t4 c.triple_figures-size.result.0 c.triple_figures-size.result.1 c.changed_size-size.result c.toggled_triples-hash.result c.in_ok-one.one c.in_ok-two.two c.in_ok-three.three
     c.triple_figures-size.ensures.size c.triple_figures-size.ensures.hash c.changed_size-size.ensures c.toggled_triples-hash.ensures s4.one s4.two s4.three in
@@ -581,22 +582,22 @@ returns-clause-logged g c =
     (subst (λ l. (n : Node) × (node_of t0 3 row ≡ Some n) × IsLogged g.M.Mix.mixed t0 t1 l l1 (at_depth 2 (edges_of n)) (at_depth 3 (one_at row)) 0) c.in_ok-reserve.ensures.same c.open_triples.ensures.opened) c.open_triples.ensures.below in
     let t2 = c.replace_triple_map.new.context in
     let l2 = c.replace_triple_map.new.log.steps in
-    let n = run_room c.deref.result.now in
-    let s2 = changes_one g.M.Mix.mixed t0 l0 row c.args.change t1 l1 H B 0 a H 1 b H 2 e 0 s1 (set_of_entries trip_tuple c.deref.result.now) (λ k. ap (λ ts. slice nat_cmp (set_of_entries trip_tuple ts) 0 k) c.deref.ensures.value ∙ c.in_ok-by_first.ensures.slices k)
+    let n = run_room c.in_ok-by_first.by_first.items in
+    let s2 = changes_one g.M.Mix.mixed t0 l0 row c.args.change t1 l1 H B 0 a H 1 b H 2 e 0 s1 (set_of_entries trip_tuple c.in_ok-by_first.by_first.items) c.in_ok-by_first.ensures.slices
     t2 l2 c.in_ok-one.one n c.in_ok-one.ensures.logged c.in_ok-one.ensures.changed n (omega arith) in
     let t3 = c.replace_triple_map-2.new.context in
     let l3 = c.replace_triple_map-2.new.log.steps in
-    let m = run_room c.deref-2.result.now in
-    let s3 = changes_one g.M.Mix.mixed t0 l0 row c.args.change t2 l2 H B 1 b H 2 e G 0 c.in_ok-one.one n s2 (set_of_entries trip_tuple c.deref-2.result.now) (λ k. ap (λ ts. slice nat_cmp (set_of_entries trip_tuple ts) 0 k) c.deref-2.ensures.value ∙ c.in_ok-by_second.ensures.slices k)
+    let m = run_room c.in_ok-by_second.by_second.items in
+    let s3 = changes_one g.M.Mix.mixed t0 l0 row c.args.change t2 l2 H B 1 b H 2 e G 0 c.in_ok-one.one n s2 (set_of_entries trip_tuple c.in_ok-by_second.by_second.items) c.in_ok-by_second.ensures.slices
     t3 l3 c.in_ok-two.two m c.in_ok-two.ensures.logged c.in_ok-two.ensures.changed (n + m) (omega arith) in
     let t4 = c.replace_triple_map-3.new.context in
     let l4 = c.replace_triple_map-3.new.log.steps in
-    let k = run_room c.deref-3.result.now in
-    let s4 = changes_one g.M.Mix.mixed t0 l0 row c.args.change t3 l3 H B 2 e G 0 c.in_ok-one.one G 1 c.in_ok-two.two (n + m) s3 (set_of_entries trip_tuple c.deref-3.result.now) (λ k. ap (λ ts. slice nat_cmp (set_of_entries trip_tuple ts) 0 k) c.deref-3.ensures.value ∙ c.in_ok-by_third.ensures.slices k)
+    let k = run_room c.in_ok-by_third.by_third.items in
+    let s4 = changes_one g.M.Mix.mixed t0 l0 row c.args.change t3 l3 H B 2 e G 0 c.in_ok-one.one G 1 c.in_ok-two.two (n + m) s3 (set_of_entries trip_tuple c.in_ok-by_third.by_third.items) c.in_ok-by_third.ensures.slices
     t4 l4 c.in_ok-three.three k c.in_ok-three.ensures.logged c.in_ok-three.ensures.changed (n + m + k) (omega arith) in
-    let many0 : length c.deref.result.now ≡ length c.args.batch.now = ap length c.deref.ensures.value ∙ c.in_ok-by_first.ensures.len in
-    let many1 : length c.deref-2.result.now ≡ length c.args.batch.now = ap length c.deref-2.ensures.value ∙ c.in_ok-by_second.ensures.len in
-    let many2 : length c.deref-3.result.now ≡ length c.args.batch.now = ap length c.deref-3.ensures.value ∙ c.in_ok-by_third.ensures.len in
+    let many0 : length c.in_ok-by_first.by_first.items ≡ length c.args.batch.now = c.in_ok-by_first.ensures.len in
+    let many1 : length c.in_ok-by_second.by_second.items ≡ length c.args.batch.now = c.in_ok-by_second.ensures.len in
+    let many2 : length c.in_ok-by_third.by_third.items ≡ length c.args.batch.now = c.in_ok-by_third.ensures.len in
     let node = Full c.changed_size-size.result c.toggled_triples-hash.result c.in_ok-one.one c.in_ok-two.two c.in_ok-three.three in
     if_ok (λ root. IsLogged g.M.Mix.mixed t4 c.store_triples.new.context l4 c.store_triples.new.log.steps (root_hold root) (at_depth 2 (edges_of node)) 1)
     (λ root. IsLogged g.M.Mix.mixed t0 c.store_triples.new.context l0 c.store_triples.new.log.steps (root_hold root) (at_depth 3 (one_at row)) (graph_room c.args.batch.now)) c.store_triples.result
@@ -620,18 +621,192 @@ returns-clause-grew g c =
     (subst (λ l. (n : Node) × (node_of t0 3 row ≡ Some n) × IsLogged g.M.Mix.mixed t0 t1 l l1 (at_depth 2 (edges_of n)) (at_depth 3 (one_at row)) 0) c.in_ok-reserve.ensures.same c.open_triples.ensures.opened) c.open_triples.ensures.below in
     let t2 = c.replace_triple_map.new.context in
     let l2 = c.replace_triple_map.new.log.steps in
-    let n = run_room c.deref.result.now in
-    let s2 = changes_one g.M.Mix.mixed t0 l0 row c.args.change t1 l1 H B 0 a H 1 b H 2 e 0 s1 (set_of_entries trip_tuple c.deref.result.now) (λ k. ap (λ ts. slice nat_cmp (set_of_entries trip_tuple ts) 0 k) c.deref.ensures.value ∙ c.in_ok-by_first.ensures.slices k)
+    let n = run_room c.in_ok-by_first.by_first.items in
+    let s2 = changes_one g.M.Mix.mixed t0 l0 row c.args.change t1 l1 H B 0 a H 1 b H 2 e 0 s1 (set_of_entries trip_tuple c.in_ok-by_first.by_first.items) c.in_ok-by_first.ensures.slices
     t2 l2 c.in_ok-one.one n c.in_ok-one.ensures.logged c.in_ok-one.ensures.changed n (omega arith) in
     let t3 = c.replace_triple_map-2.new.context in
     let l3 = c.replace_triple_map-2.new.log.steps in
-    let m = run_room c.deref-2.result.now in
-    let s3 = changes_one g.M.Mix.mixed t0 l0 row c.args.change t2 l2 H B 1 b H 2 e G 0 c.in_ok-one.one n s2 (set_of_entries trip_tuple c.deref-2.result.now) (λ k. ap (λ ts. slice nat_cmp (set_of_entries trip_tuple ts) 0 k) c.deref-2.ensures.value ∙ c.in_ok-by_second.ensures.slices k)
+    let m = run_room c.in_ok-by_second.by_second.items in
+    let s3 = changes_one g.M.Mix.mixed t0 l0 row c.args.change t2 l2 H B 1 b H 2 e G 0 c.in_ok-one.one n s2 (set_of_entries trip_tuple c.in_ok-by_second.by_second.items) c.in_ok-by_second.ensures.slices
     t3 l3 c.in_ok-two.two m c.in_ok-two.ensures.logged c.in_ok-two.ensures.changed (n + m) (omega arith) in
     let t4 = c.replace_triple_map-3.new.context in
     let l4 = c.replace_triple_map-3.new.log.steps in
-    let k = run_room c.deref-3.result.now in
-    let s4 = changes_one g.M.Mix.mixed t0 l0 row c.args.change t3 l3 H B 2 e G 0 c.in_ok-one.one G 1 c.in_ok-two.two (n + m) s3 (set_of_entries trip_tuple c.deref-3.result.now) (λ k. ap (λ ts. slice nat_cmp (set_of_entries trip_tuple ts) 0 k) c.deref-3.ensures.value ∙ c.in_ok-by_third.ensures.slices k)
+    let k = run_room c.in_ok-by_third.by_third.items in
+    let s4 = changes_one g.M.Mix.mixed t0 l0 row c.args.change t3 l3 H B 2 e G 0 c.in_ok-one.one G 1 c.in_ok-two.two (n + m) s3 (set_of_entries trip_tuple c.in_ok-by_third.by_third.items) c.in_ok-by_third.ensures.slices
     t4 l4 c.in_ok-three.three k c.in_ok-three.ensures.logged c.in_ok-three.ensures.changed (n + m + k) (omega arith) in
     err_then (Grows g.M.Mix.mixed t4 c.store_triples.new.context l4 c.store_triples.new.log.steps) (Grows g.M.Mix.mixed t0 c.store_triples.new.context l0 c.store_triples.new.log.steps) c.store_triples.result
     (grows_on g.M.Mix.mixed t0 t4 c.store_triples.new.context l0 l4 c.store_triples.new.log.steps s4.logged.grew) c.store_triples.ensures.grew
+
+pub returns-in_err-one-clause-retained : goal.returns-in_err-one-clause-retained
+returns-in_err-one-clause-retained g c only =
+    let t0 = c.args.context.now in
+    let l0 = c.args.log.now.steps in
+    let row = c.args.row in
+    let H = set_of t0 3 row in
+    let B = set_of_entries trip_tuple c.args.batch.now in
+    let G = after (grows c.args.change) H B in
+    let a = c.in_ok-first.first in
+    let b = c.in_ok-first.second in
+    let e = c.in_ok-first.third in
+    let t1 = c.open_triples.new.context in
+    let l1 = c.open_triples.new.log.steps in
+    let s1 = starts g.M.Mix.mixed t0 l0 row a b e c.in_ok-first.ensures.first c.in_ok-first.ensures.second c.in_ok-first.ensures.third c.in_ok-first.ensures.edges t1 l1
+    (subst (λ l. (n : Node) × (node_of t0 3 row ≡ Some n) × IsLogged g.M.Mix.mixed t0 t1 l l1 (at_depth 2 (edges_of n)) (at_depth 3 (one_at row)) 0) c.in_ok-reserve.ensures.same c.open_triples.ensures.opened) c.open_triples.ensures.below in
+    let turned1 = turned_by c.args.change H B 0 (omega arith) t1 a c.in_ok-by_first.by_first.items s1.one c.in_ok-by_first.ensures.slices in
+    let opened = c.open_triples.ensures.opened in
+    let shared1 = starts_shared g.M.Mix.mixed t0 c.is_kept.ensures row opened.0 opened.1 G t1 only (c.open_triples.ensures.holds opened.0 opened.1) c.open_triples.ensures.below in
+    let few1 = c.replace_triple_map.ensures.retained H G 0 turned1 shared1 in
+    omega (arith, few1, c.in_ok-by_first.ensures.len)
+
+pub returns-in_err-by_second-clause-retained : goal.returns-in_err-by_second-clause-retained
+returns-in_err-by_second-clause-retained g c only =
+    let t0 = c.args.context.now in
+    let l0 = c.args.log.now.steps in
+    let row = c.args.row in
+    let H = set_of t0 3 row in
+    let B = set_of_entries trip_tuple c.args.batch.now in
+    let G = after (grows c.args.change) H B in
+    let a = c.in_ok-first.first in
+    let b = c.in_ok-first.second in
+    let e = c.in_ok-first.third in
+    let t1 = c.open_triples.new.context in
+    let l1 = c.open_triples.new.log.steps in
+    let s1 = starts g.M.Mix.mixed t0 l0 row a b e c.in_ok-first.ensures.first c.in_ok-first.ensures.second c.in_ok-first.ensures.third c.in_ok-first.ensures.edges t1 l1
+    (subst (λ l. (n : Node) × (node_of t0 3 row ≡ Some n) × IsLogged g.M.Mix.mixed t0 t1 l l1 (at_depth 2 (edges_of n)) (at_depth 3 (one_at row)) 0) c.in_ok-reserve.ensures.same c.open_triples.ensures.opened) c.open_triples.ensures.below in
+    let turned1 = turned_by c.args.change H B 0 (omega arith) t1 a c.in_ok-by_first.by_first.items s1.one c.in_ok-by_first.ensures.slices in
+    let opened = c.open_triples.ensures.opened in
+    let shared1 = starts_shared g.M.Mix.mixed t0 c.is_kept.ensures row opened.0 opened.1 G t1 only (c.open_triples.ensures.holds opened.0 opened.1) c.open_triples.ensures.below in
+    let few1 = c.replace_triple_map.ensures.retained H G 0 turned1 shared1 in
+    omega (arith, few1, c.in_ok-by_first.ensures.len)
+
+pub returns-in_err-two-clause-retained : goal.returns-in_err-two-clause-retained
+returns-in_err-two-clause-retained g c only =
+    let t0 = c.args.context.now in
+    let l0 = c.args.log.now.steps in
+    let row = c.args.row in
+    let H = set_of t0 3 row in
+    let B = set_of_entries trip_tuple c.args.batch.now in
+    let G = after (grows c.args.change) H B in
+    let a = c.in_ok-first.first in
+    let b = c.in_ok-first.second in
+    let e = c.in_ok-first.third in
+    let t1 = c.open_triples.new.context in
+    let l1 = c.open_triples.new.log.steps in
+    let s1 = starts g.M.Mix.mixed t0 l0 row a b e c.in_ok-first.ensures.first c.in_ok-first.ensures.second c.in_ok-first.ensures.third c.in_ok-first.ensures.edges t1 l1
+    (subst (λ l. (n : Node) × (node_of t0 3 row ≡ Some n) × IsLogged g.M.Mix.mixed t0 t1 l l1 (at_depth 2 (edges_of n)) (at_depth 3 (one_at row)) 0) c.in_ok-reserve.ensures.same c.open_triples.ensures.opened) c.open_triples.ensures.below in
+    let t2 = c.replace_triple_map.new.context in
+    let l2 = c.replace_triple_map.new.log.steps in
+    let n = run_room c.in_ok-by_first.by_first.items in
+    let s2 = changes_one g.M.Mix.mixed t0 l0 row c.args.change t1 l1 H B 0 a H 1 b H 2 e 0 s1 (set_of_entries trip_tuple c.in_ok-by_first.by_first.items) c.in_ok-by_first.ensures.slices
+    t2 l2 c.in_ok-one.one n c.in_ok-one.ensures.logged c.in_ok-one.ensures.changed n (omega arith) in
+    let turned1 = turned_by c.args.change H B 0 (omega arith) t1 a c.in_ok-by_first.by_first.items s1.one c.in_ok-by_first.ensures.slices in
+    let opened = c.open_triples.ensures.opened in
+    let shared1 = starts_shared g.M.Mix.mixed t0 c.is_kept.ensures row opened.0 opened.1 G t1 only (c.open_triples.ensures.holds opened.0 opened.1) c.open_triples.ensures.below in
+    let few1 = c.replace_triple_map.ensures.retained H G 0 turned1 shared1 in
+    let turned2 = turned_by c.args.change H B 1 (omega arith) t2 b c.in_ok-by_second.by_second.items s2.one c.in_ok-by_second.ensures.slices in
+    let shared2 = c.in_ok-one.ensures.shared H G 0 turned1 shared1 in
+    let few2 = c.replace_triple_map-2.ensures.retained H G 1 turned2 shared2 in
+    omega (arith, few1, few2, c.in_ok-by_first.ensures.len, c.in_ok-by_second.ensures.len)
+
+pub returns-in_err-by_third-clause-retained : goal.returns-in_err-by_third-clause-retained
+returns-in_err-by_third-clause-retained g c only =
+    let t0 = c.args.context.now in
+    let l0 = c.args.log.now.steps in
+    let row = c.args.row in
+    let H = set_of t0 3 row in
+    let B = set_of_entries trip_tuple c.args.batch.now in
+    let G = after (grows c.args.change) H B in
+    let a = c.in_ok-first.first in
+    let b = c.in_ok-first.second in
+    let e = c.in_ok-first.third in
+    let t1 = c.open_triples.new.context in
+    let l1 = c.open_triples.new.log.steps in
+    let s1 = starts g.M.Mix.mixed t0 l0 row a b e c.in_ok-first.ensures.first c.in_ok-first.ensures.second c.in_ok-first.ensures.third c.in_ok-first.ensures.edges t1 l1
+    (subst (λ l. (n : Node) × (node_of t0 3 row ≡ Some n) × IsLogged g.M.Mix.mixed t0 t1 l l1 (at_depth 2 (edges_of n)) (at_depth 3 (one_at row)) 0) c.in_ok-reserve.ensures.same c.open_triples.ensures.opened) c.open_triples.ensures.below in
+    let t2 = c.replace_triple_map.new.context in
+    let l2 = c.replace_triple_map.new.log.steps in
+    let n = run_room c.in_ok-by_first.by_first.items in
+    let s2 = changes_one g.M.Mix.mixed t0 l0 row c.args.change t1 l1 H B 0 a H 1 b H 2 e 0 s1 (set_of_entries trip_tuple c.in_ok-by_first.by_first.items) c.in_ok-by_first.ensures.slices
+    t2 l2 c.in_ok-one.one n c.in_ok-one.ensures.logged c.in_ok-one.ensures.changed n (omega arith) in
+    let turned1 = turned_by c.args.change H B 0 (omega arith) t1 a c.in_ok-by_first.by_first.items s1.one c.in_ok-by_first.ensures.slices in
+    let opened = c.open_triples.ensures.opened in
+    let shared1 = starts_shared g.M.Mix.mixed t0 c.is_kept.ensures row opened.0 opened.1 G t1 only (c.open_triples.ensures.holds opened.0 opened.1) c.open_triples.ensures.below in
+    let few1 = c.replace_triple_map.ensures.retained H G 0 turned1 shared1 in
+    let turned2 = turned_by c.args.change H B 1 (omega arith) t2 b c.in_ok-by_second.by_second.items s2.one c.in_ok-by_second.ensures.slices in
+    let shared2 = c.in_ok-one.ensures.shared H G 0 turned1 shared1 in
+    let few2 = c.replace_triple_map-2.ensures.retained H G 1 turned2 shared2 in
+    omega (arith, few1, few2, c.in_ok-by_first.ensures.len, c.in_ok-by_second.ensures.len)
+
+pub returns-in_err-three-clause-retained : goal.returns-in_err-three-clause-retained
+returns-in_err-three-clause-retained g c only =
+    let t0 = c.args.context.now in
+    let l0 = c.args.log.now.steps in
+    let row = c.args.row in
+    let H = set_of t0 3 row in
+    let B = set_of_entries trip_tuple c.args.batch.now in
+    let G = after (grows c.args.change) H B in
+    let a = c.in_ok-first.first in
+    let b = c.in_ok-first.second in
+    let e = c.in_ok-first.third in
+    let t1 = c.open_triples.new.context in
+    let l1 = c.open_triples.new.log.steps in
+    let s1 = starts g.M.Mix.mixed t0 l0 row a b e c.in_ok-first.ensures.first c.in_ok-first.ensures.second c.in_ok-first.ensures.third c.in_ok-first.ensures.edges t1 l1
+    (subst (λ l. (n : Node) × (node_of t0 3 row ≡ Some n) × IsLogged g.M.Mix.mixed t0 t1 l l1 (at_depth 2 (edges_of n)) (at_depth 3 (one_at row)) 0) c.in_ok-reserve.ensures.same c.open_triples.ensures.opened) c.open_triples.ensures.below in
+    let t2 = c.replace_triple_map.new.context in
+    let l2 = c.replace_triple_map.new.log.steps in
+    let n = run_room c.in_ok-by_first.by_first.items in
+    let s2 = changes_one g.M.Mix.mixed t0 l0 row c.args.change t1 l1 H B 0 a H 1 b H 2 e 0 s1 (set_of_entries trip_tuple c.in_ok-by_first.by_first.items) c.in_ok-by_first.ensures.slices
+    t2 l2 c.in_ok-one.one n c.in_ok-one.ensures.logged c.in_ok-one.ensures.changed n (omega arith) in
+    let t3 = c.replace_triple_map-2.new.context in
+    let l3 = c.replace_triple_map-2.new.log.steps in
+    let m = run_room c.in_ok-by_second.by_second.items in
+    let s3 = changes_one g.M.Mix.mixed t0 l0 row c.args.change t2 l2 H B 1 b H 2 e G 0 c.in_ok-one.one n s2 (set_of_entries trip_tuple c.in_ok-by_second.by_second.items) c.in_ok-by_second.ensures.slices
+    t3 l3 c.in_ok-two.two m c.in_ok-two.ensures.logged c.in_ok-two.ensures.changed (n + m) (omega arith) in
+    let turned1 = turned_by c.args.change H B 0 (omega arith) t1 a c.in_ok-by_first.by_first.items s1.one c.in_ok-by_first.ensures.slices in
+    let opened = c.open_triples.ensures.opened in
+    let shared1 = starts_shared g.M.Mix.mixed t0 c.is_kept.ensures row opened.0 opened.1 G t1 only (c.open_triples.ensures.holds opened.0 opened.1) c.open_triples.ensures.below in
+    let few1 = c.replace_triple_map.ensures.retained H G 0 turned1 shared1 in
+    let turned2 = turned_by c.args.change H B 1 (omega arith) t2 b c.in_ok-by_second.by_second.items s2.one c.in_ok-by_second.ensures.slices in
+    let shared2 = c.in_ok-one.ensures.shared H G 0 turned1 shared1 in
+    let few2 = c.replace_triple_map-2.ensures.retained H G 1 turned2 shared2 in
+    let turned3 = turned_by c.args.change H B 2 (omega arith) t3 e c.in_ok-by_third.by_third.items s3.one c.in_ok-by_third.ensures.slices in
+    let shared3 = c.in_ok-two.ensures.shared H G 1 turned2 shared2 in
+    let few3 = c.replace_triple_map-3.ensures.retained H G 2 turned3 shared3 in
+    omega (arith, few1, few2, few3, c.in_ok-by_first.ensures.len, c.in_ok-by_second.ensures.len, c.in_ok-by_third.ensures.len)
+
+pub returns-clause-retained : goal.returns-clause-retained
+returns-clause-retained g c only =
+    let t0 = c.args.context.now in
+    let l0 = c.args.log.now.steps in
+    let row = c.args.row in
+    let H = set_of t0 3 row in
+    let B = set_of_entries trip_tuple c.args.batch.now in
+    let G = after (grows c.args.change) H B in
+    let a = c.in_ok-first.first in
+    let b = c.in_ok-first.second in
+    let e = c.in_ok-first.third in
+    let t1 = c.open_triples.new.context in
+    let l1 = c.open_triples.new.log.steps in
+    let s1 = starts g.M.Mix.mixed t0 l0 row a b e c.in_ok-first.ensures.first c.in_ok-first.ensures.second c.in_ok-first.ensures.third c.in_ok-first.ensures.edges t1 l1
+    (subst (λ l. (n : Node) × (node_of t0 3 row ≡ Some n) × IsLogged g.M.Mix.mixed t0 t1 l l1 (at_depth 2 (edges_of n)) (at_depth 3 (one_at row)) 0) c.in_ok-reserve.ensures.same c.open_triples.ensures.opened) c.open_triples.ensures.below in
+    let t2 = c.replace_triple_map.new.context in
+    let l2 = c.replace_triple_map.new.log.steps in
+    let n = run_room c.in_ok-by_first.by_first.items in
+    let s2 = changes_one g.M.Mix.mixed t0 l0 row c.args.change t1 l1 H B 0 a H 1 b H 2 e 0 s1 (set_of_entries trip_tuple c.in_ok-by_first.by_first.items) c.in_ok-by_first.ensures.slices
+    t2 l2 c.in_ok-one.one n c.in_ok-one.ensures.logged c.in_ok-one.ensures.changed n (omega arith) in
+    let t3 = c.replace_triple_map-2.new.context in
+    let l3 = c.replace_triple_map-2.new.log.steps in
+    let m = run_room c.in_ok-by_second.by_second.items in
+    let s3 = changes_one g.M.Mix.mixed t0 l0 row c.args.change t2 l2 H B 1 b H 2 e G 0 c.in_ok-one.one n s2 (set_of_entries trip_tuple c.in_ok-by_second.by_second.items) c.in_ok-by_second.ensures.slices
+    t3 l3 c.in_ok-two.two m c.in_ok-two.ensures.logged c.in_ok-two.ensures.changed (n + m) (omega arith) in
+    let turned1 = turned_by c.args.change H B 0 (omega arith) t1 a c.in_ok-by_first.by_first.items s1.one c.in_ok-by_first.ensures.slices in
+    let opened = c.open_triples.ensures.opened in
+    let shared1 = starts_shared g.M.Mix.mixed t0 c.is_kept.ensures row opened.0 opened.1 G t1 only (c.open_triples.ensures.holds opened.0 opened.1) c.open_triples.ensures.below in
+    let few1 = c.replace_triple_map.ensures.retained H G 0 turned1 shared1 in
+    let turned2 = turned_by c.args.change H B 1 (omega arith) t2 b c.in_ok-by_second.by_second.items s2.one c.in_ok-by_second.ensures.slices in
+    let shared2 = c.in_ok-one.ensures.shared H G 0 turned1 shared1 in
+    let few2 = c.replace_triple_map-2.ensures.retained H G 1 turned2 shared2 in
+    let turned3 = turned_by c.args.change H B 2 (omega arith) t3 e c.in_ok-by_third.by_third.items s3.one c.in_ok-by_third.ensures.slices in
+    let shared3 = c.in_ok-two.ensures.shared H G 1 turned2 shared2 in
+    let few3 = c.replace_triple_map-3.ensures.retained H G 2 turned3 shared3 in
+    omega (arith, few1, few2, few3, c.in_ok-by_first.ensures.len, c.in_ok-by_second.ensures.len, c.in_ok-by_third.ensures.len)

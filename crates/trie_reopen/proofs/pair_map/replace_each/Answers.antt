@@ -22,6 +22,7 @@ loop-first-init g c = (
   begins (λ (p : Pair). p.0.0) pair_rest c.args.change 1 c.args.context.now c.args.old.now c.args.pairs.now c.requires.entries.fits c.args.changes.now.items c.requires.none,
   logged_none g.M.Mix.mixed c.args.context.now c.args.log.now.steps (map_hold 1 (changed c.args.old.now c.args.changes.now.items)) (map_hold 1 c.args.old.now) _ c.is_kept.ensures (λ d r. ap (λ cs. map_hold 1 (changed c.args.old.now cs) d r) c.requires.none),
   omega arith,
+  (λ d r deep. omega arith),
 )
 
 abbrev key_of : Pair → ℕ
@@ -71,6 +72,7 @@ loop-first-preserved g c =
           c.loop-first.context c.loop-first.rest.now c.loop-first.changes.items so_far c.loop-first.log.steps (length so_far.done) c.loop-first.invariant.1 c.in-Some.first.now.0 run c.split_at.result.1.now turn
           c.replace_keys.new.context c.replace_keys.new.log.steps c.in_ok-edge.edge 1 now stands c.push_reserved.new.self.items pushed (length (so_far.done ++ run)) (omega (arith, more, turn.some)),
       omega (arith, c.loop-first.invariant.2, c.replace_keys.ensures.ticks, more, turn.some),
+      (λ d r deep. omega (arith, c.loop-first.invariant.3 d r deep, c.in_ok-edge.ensures.risen d r deep)),
     )
 
 pub returns-in_err-edge-clause-grew : goal.returns-in_err-edge-clause-grew

@@ -1,4 +1,4 @@
-use Rattle.std.proofs.Common.{◌∙◌, ◌∷◌, ap, sym, subst, refl}
+use Rattle.std.proofs.Common.{◌∙◌, ◌∷◌, ap, sym, subst, refl, arith}
 use Rattle.change_log.specs.declared.step.RowStep.TheVariants.{Replaced}
 use Rattle.change_log.specs.declared.step.Step.TheVariants.{Pairs}
 use Rattle.change_log.specs.Laws.{logged_replaced}
@@ -18,3 +18,6 @@ returns-clause-logged g c =
     let most = run_room c.args.run.now in
     subst (λ steps. IsLogged g.M.Mix.mixed t u log steps (edge_hold 2 new) (edge_hold 2 old) most) (sym (c.push.ensures ∙ ap (λ l. Pairs (Replaced old new) ∷ l) c.in_ok-reserve.ensures.same))
     (logged_replaced g.M.Mix.mixed t u log (Pairs (Replaced old new)) c.is_kept.ensures (h.moved, h.stay) 2 old new most h.moved h.stay h.counts (λ e r. refl))
+
+pub returns-clause-risen : goal.returns-clause-risen
+returns-clause-risen g c d r deep = omega (arith, c.in_ok-new.ensures.held.moved.holds d r)

@@ -21,6 +21,7 @@ use Rattle.trie_change.specs.PairLaws.{changes_of, if_ok, on_err}
 use Rattle.trie_reopen.proofs.Unmoved.{err_then}
 use Rattle.trie_reopen.proofs.OwnMaps.{slices_fit}
 use Rattle.trie_reopen.proofs.PairTurns.{starts, changes_one, first_held, parts_are, nothing_left, node_held, stored}
+use Rattle.trie_reopen.specs.Shared.{HoldsRiseBy}
 use Rattle.trie_reopen.proofs.reopened.reopen_pairs.Goals as goal
 
 pub changed_size-size-requires : goal.changed_size-size-requires
@@ -443,3 +444,13 @@ returns-clause-grew g c =
     t3 l3 c.in_ok-two.two (length m) c.in_ok-two.ensures.logged c.in_ok-two.ensures.changed (length n + length m) (omega arith) in
     err_then (Grows g.M.Mix.mixed t3 c.store_pairs.new.context l3 c.store_pairs.new.log.steps) (Grows g.M.Mix.mixed t0 c.store_pairs.new.context l0 c.store_pairs.new.log.steps) c.store_pairs.result
     (grows_on g.M.Mix.mixed t0 t3 c.store_pairs.new.context l0 l3 c.store_pairs.new.log.steps s3.logged.grew) c.store_pairs.ensures.grew
+
+pub returns-then-size-eq0-clause-risen : goal.returns-then-size-eq0-clause-risen
+returns-then-size-eq0-clause-risen g c d r deep =
+    omega (arith, c.open_pairs.ensures.risen d r deep, c.in_ok-one.ensures.risen d r deep, c.in_ok-two.ensures.risen d r deep)
+
+pub returns-clause-risen : goal.returns-clause-risen
+returns-clause-risen g c =
+    if_ok (λ e. HoldsRiseBy c.replace_pair_map-2.new.context c.store_pairs.new.context (edge_hold 2 e)) (λ e. HoldsRiseBy c.args.context.now c.store_pairs.new.context (edge_hold 2 e)) c.store_pairs.result
+    (λ e risen d r deep. omega (arith, c.open_pairs.ensures.risen d r deep, c.in_ok-one.ensures.risen d r deep, c.in_ok-two.ensures.risen d r deep, risen d r deep))
+    c.store_pairs.ensures.risen

@@ -17,6 +17,8 @@ use Rattle.trie_change.specs.Rooms.{FitsSome}
 use Rattle.trie_change.specs.PairLaws.{on_err}
 use Rattle.trie_change.specs.RunLaws.{IsCut, cut_at, first_there, begins, run_order, old_there, run_change, run_small}
 use Rattle.trie_reopen.proofs.HeldMaps.{done_step, hand_step, edge_held}
+use Rattle.trie_change.specs.Sums.{sum_at, sum_at-push}
+use Rattle.trie_reopen.proofs.SharedLemmas.{cost_at, costs_within, costs_so_far, run_cost, run_shared, shared_on}
 use Rattle.trie_reopen.proofs.triple_map.replace_rows.Goals as goal
 
 pub loop-first-init : goal.loop-first-init
@@ -24,6 +26,7 @@ loop-first-init g c = (
   begins (λ (p : Trip). p.0.0) trip_rest c.args.change 2 c.args.context.now c.args.old.now c.args.triples.now c.requires.entries.fits c.args.changes.now.items c.requires.none,
   logged_none g.M.Mix.mixed c.args.context.now c.args.log.now.steps (map_hold 2 (changed c.args.old.now c.args.changes.now.items)) (map_hold 2 c.args.old.now) _ c.is_kept.ensures (λ d r. ap (λ cs. map_hold 2 (changed c.args.old.now cs) d r) c.requires.none),
   omega arith,
+  (λ G H i turned shared. (shared, omega arith)),
 )
 
 abbrev key_of : Trip → ℕ
@@ -92,6 +95,22 @@ loop-first-preserved g c =
           c.loop-first.context c.loop-first.rest.now c.loop-first.changes.items so_far c.loop-first.log.steps (2 ^ 34 * length so_far.done) c.loop-first.invariant.1 c.in-Some.first.now.0 run c.split_at.result.1.now turn
           c.change_held_pairs.new.context c.change_held_pairs.new.log.steps c.in_ok-edge.edge (run_room run) now stands c.push_reserved.new.self.items pushed (2 ^ 34 * length (so_far.done ++ run)) (omega (arith, more, turn.some)),
       omega (arith, c.loop-first.invariant.2, c.change_held_pairs.ensures.ticks, more, turn.some),
+      (λ G H i turned shared.
+          let before = c.loop-first.invariant.3 G H i turned shared in (
+            shared_on G H c.loop-first.context c.change_held_pairs.new.context c.get.result c.in_ok-edge.edge (after (grows c.args.change) (set_at c.loop-first.context 2 c.get.result) (set_of_entries trip_rest run)) before.0 c.in_ok-edge.ensures.risen c.in_ok-edge.ensures.logged.stay c.in_ok-edge.ensures.stands
+                (run_shared c.args.change G H i c.args.context.now c.args.old.now c.args.triples.now turned c.requires.entries.fits c.requires.entries.order c.requires.entries.change
+                c.loop-first.context c.loop-first.rest.now c.loop-first.changes.items so_far c.in-Some.first.now.0 run c.split_at.result.1.now turn c.get.result c.get.ensures),
+            omega (
+              arith,
+              before.1,
+              c.change_held_pairs.ensures.retained G H before.0,
+              more,
+              run_cost c.args.change G H i c.args.context.now c.args.old.now c.args.triples.now turned c.requires.entries.fits c.requires.entries.order c.requires.entries.change
+                  c.loop-first.context c.loop-first.rest.now c.loop-first.changes.items so_far c.in-Some.first.now.0 run c.split_at.result.1.now turn c.get.result c.get.ensures,
+              ap (sum_at (cost_at G H i)) pushed,
+              sum_at-push (cost_at G H i) c.loop-first.changes.items (c.in-Some.first.now.0, c.in_ok-edge.edge),
+            ),
+          )),
     )
 
 pub returns-in_err-edge-clause-grew : goal.returns-in_err-edge-clause-grew
@@ -104,3 +123,39 @@ returns-in_err-edge-clause-ticks g c =
     let so_far = c.loop-first.invariant.0 in
     let whole : length c.args.triples.now ≡ length so_far.done + length c.loop-first.rest.now = ap length so_far.whole ∙ length-append so_far.done c.loop-first.rest.now in
     omega (arith, c.loop-first.invariant.2, c.change_held_pairs.ensures.ticks, (first_there c.loop-first.rest.now c.in-Some.first.now c.in-Some.ensures.value).0, whole)
+
+pub returns-in_err-reserve-clause-retained : goal.returns-in_err-reserve-clause-retained
+returns-in_err-reserve-clause-retained g c G H i turned shared =
+    let so_far = c.loop-first.invariant.0 in
+    let whole : length c.args.triples.now ≡ length so_far.done + length c.loop-first.rest.now = ap length so_far.whole ∙ length-append so_far.done c.loop-first.rest.now in
+    omega (arith, (c.loop-first.invariant.3 G H i turned shared).1, whole, costs_within c.args.change G H i c.loop-first.changes.items so_far.rise)
+
+pub returns-clause-retained : goal.returns-clause-retained
+returns-clause-retained g c G H i turned shared =
+    let so_far = c.loop-first.invariant.0 in
+    let whole : length c.args.triples.now ≡ length so_far.done + length c.loop-first.rest.now = ap length so_far.whole ∙ length-append so_far.done c.loop-first.rest.now in
+    omega (arith, (c.loop-first.invariant.3 G H i turned shared).1, whole, costs_within c.args.change G H i c.loop-first.changes.items so_far.rise)
+
+pub returns-clause-shared : goal.returns-clause-shared
+returns-clause-shared g c G H i turned shared = (c.loop-first.invariant.3 G H i turned shared).0
+
+pub returns-in_err-edge-clause-retained : goal.returns-in_err-edge-clause-retained
+returns-in_err-edge-clause-retained g c G H i turned shared =
+    let so_far = c.loop-first.invariant.0 in
+    let run = c.split_at.result.0.now in
+    let turn : Cut c.loop-first.rest.now c.in-Some.first.now.0 run c.split_at.result.1.now =
+    cut c.loop-first.rest.now c.triple_run.result run c.split_at.result.1.now c.in-Some.first.now c.split_at.ensures.by_index.0 c.split_at.ensures.front c.split_at.ensures.back c.triple_run.ensures.bound c.triple_run.ensures.run c.triple_run.ensures.end c.in-Some.ensures.value in
+    let whole : length c.args.triples.now ≡ length so_far.done + length c.loop-first.rest.now = ap length so_far.whole ∙ length-append so_far.done c.loop-first.rest.now in
+    let parts : length c.loop-first.rest.now ≡ length run + length c.split_at.result.1.now = ap length turn.whole ∙ length-append run c.split_at.result.1.now in
+    let before = c.loop-first.invariant.3 G H i turned shared in
+    omega (
+      arith,
+      before.1,
+      c.change_held_pairs.ensures.retained G H before.0,
+      whole,
+      parts,
+      run_cost c.args.change G H i c.args.context.now c.args.old.now c.args.triples.now turned c.requires.entries.fits c.requires.entries.order c.requires.entries.change
+          c.loop-first.context c.loop-first.rest.now c.loop-first.changes.items so_far c.in-Some.first.now.0 run c.split_at.result.1.now turn c.get.result c.get.ensures,
+      costs_so_far c.args.change G H i c.args.context.now c.args.old.now c.args.triples.now turned c.requires.entries.fits c.requires.entries.order c.requires.entries.change
+          c.loop-first.context c.loop-first.rest.now c.loop-first.changes.items so_far c.in-Some.first.now.0 run c.split_at.result.1.now turn,
+    )

@@ -1,5 +1,5 @@
 -- Rows of pairs that other edges lead to: what a change copies because of them.
-use Rattle.std.specs.Prelude.{◌≡◌, ◌≢◌, ℕ, zero, suc, ◌+◌, ◌*◌, ◌<◌, ◌≤◌, ◌&&◌, ◌||◌, Bool, true, false, not, cond, nat_le, List, [], ◌∷◌, ◌++◌, length, refl, Option, None, Some, option_map}
+use Rattle.std.specs.Prelude.{◌≡◌, ◌≢◌, ℕ, zero, suc, ◌+◌, ◌*◌, ◌<◌, ◌≤◌, ◌&&◌, ◌||◌, Bool, true, false, not, cond, nat_le, List, [], ◌∷◌, ◌++◌, refl, Option, None, Some, option_map}
 use Rattle.std.proofs.Common.{sym, ◌∙◌, ap, subst, arith}
 use Rattle.std.proofs.lemmas.Bool.Decides.{nat_tests}
 use Rattle.std.specs.Ordering.{nat_cmp, eq_by_cmp}
@@ -12,13 +12,12 @@ use Rattle.std.specs.FinSet as set
 use native.Mathlib.Decide.{dec_lt}
 use Rattle.hypertrie_model.specs.Changes.{after, IsChange}
 use Rattle.hypertrie_model.specs.ChangeLaws.{slice-after, len-grown, len-shrunk}
-use Rattle.hypertrie_model.specs.Folds.{sum_over, marked}
+use Rattle.hypertrie_model.specs.Folds.{marked}
 use Rattle.hypertrie_model.specs.FoldLaws.{sum_over-empty, sum_over-part, get-marked, part}
 use Rattle.hypertrie_model.specs.IdSets.{IdSet}
 use Rattle.hypertrie_model.specs.MapLaws.{same_maps}
 use Rattle.hypertrie_model.specs.Members.{counted_by, contains-kept}
 use Rattle.hypertrie_model.specs.SetLaws.{or_right, tied-itself, tied-apart}
-use Rattle.hypertrie_model.specs.Sets.{empty}
 use Rattle.hypertrie_model.specs.Shapes.{set_cmp, times, count2}
 use Rattle.hypertrie_model.specs.ShapeLaws.{sets_total, sets_exact, count2-sum, times-sum, test_of_le}
 use Rattle.hypertrie_model.specs.SliceLaws.{slice-no_key}
@@ -47,7 +46,6 @@ use Rattle.trie_context.specs.StayLaws.{counted_there}
 use Rattle.change_log.specs.Log.{edge_hold}
 use Rattle.change_log.specs.Logged.{OthersStay}
 use Rattle.trie_change.specs.declared.change.Change.{Change}
-use Rattle.trie_change.specs.declared.change.Change.TheVariants.{Grow, Shrink}
 use Rattle.trie_change.specs.After.{triples_of}
 use Rattle.trie_change.specs.Batches.{set_of_entries, trip_rest}
 use Rattle.trie_change.specs.BatchLaws.{order_once}

@@ -13,6 +13,7 @@ use Rattle.change_log.specs.declared.step.Step.{Step}
 use Rattle.change_log.specs.Laws.{others_by_came}
 use Rattle.change_log.specs.Log.{Leads, Grows, keeps, reserved_in, HasPlaces, frees}
 use Rattle.change_log.specs.Logged.{OthersStay, IsLogged}
+use Rattle.change_log.specs.Places.{ArePlacesBeside}
 use Rattle.change_log.specs.ReservedLaws.{led_reserved}
 use Rattle.trie_change.specs.Rooms.{HeldStay}
 use Rattle.trie_update.proofs.RootHolds.{root_holds, holds_root}
@@ -24,6 +25,10 @@ append_none (step ∷ steps) = ap (λ l. step ∷ l) (append_none steps)
 -- a log that grew from nothing leads from the tables before
 pub grown_led : (mixed : ℕ → ℕ → ℕ → ℕ → ℕ) (t u : Tables) (steps : List Step) → Grows mixed t u [] steps → Leads mixed t steps u
 grown_led mixed t u steps grew = subst (λ l. Leads mixed t l u) (sym (grew.1 ∙ append_none grew.0)) grew.2
+
+-- its places are reserved beside the numbers that were reserved before
+pub grown_places : (mixed : ℕ → ℕ → ℕ → ℕ → ℕ) (t u : Tables) (steps : List Step) → Grows mixed t u [] steps → ArePlacesBeside steps (reserved_in t) (reserved_in u)
+grown_places mixed t u steps grew = let r = led_reserved mixed t u steps (grown_led mixed t u steps grew) in record { places = r.0; others = r.1 }
 
 module _ (mixed : ℕ → ℕ → ℕ → ℕ → ℕ) (t u : Tables) (steps : List Step) (old new : Root) (most : ℕ) (held : IsHeld t old) (logged : IsLogged mixed t u [] steps (root_hold new) (root_hold old) most) where
   -- the log leads from the tables before

@@ -4,12 +4,15 @@ ghost use Rattle.std.specs.FinSet as set;
 ghost use Rattle.hypertrie_model.specs.Changes.{IsChange};
 ghost use Rattle.trie_depth.specs.Tuples.{trip_tuple};
 ghost use Rattle.trie_context.specs.Roots.{root_set, root_hold, IsHeld};
-ghost use Rattle.change_log.specs.Log.{HasPlaces, frees, reserved_in};
+ghost use Rattle.change_log.specs.Log.{reserved_in};
 ghost use Rattle.change_log.specs.Logged.{IsLogged};
+ghost use Rattle.change_log.specs.Places.{ArePlacesBeside};
 ghost use Rattle.trie_change.specs.After.{triples_of, graph_after, with_batch, without_batch};
 ghost use Rattle.trie_change.specs.Batches.{IsOnce};
 ghost use Rattle.trie_change.specs.Changes.{grows};
 ghost use Rattle.trie_change.specs.Rooms.{CountsUpTo};
+ghost use Rattle.trie_context.specs.RootShape.{OnlyRootHeld};
+ghost use Rattle.trie_update.specs.Retained.{most_retained};
 
 use crate::record::Undo;
 use crate::replaced::replace_root;
@@ -39,10 +42,12 @@ pub fn change_open<M: Mix, W: Ledger, V: Ledger>(
     requires batch { length batch.now ≤ 536870912 }
     ensures set { OnOk result (root_set context.new root.new ≡ graph_after change context.old root.old batch.now) }
     ensures logged { IfOk result (λ u. IsLogged M.mixed context.old context.new [] u.log.steps (root_hold root.new) (root_hold root.old) (2 ^ 65)) }
+    ensures places { IfOk result (λ u. ArePlacesBeside u.log.steps (reserved_in context.old) (reserved_in context.new)) }
     ensures was { IfOk result (λ u. u.was ≡ root.old) }
     ensures tables { OnErr result (context.new ≡ context.old) }
     ensures root { OnErr result (root.new ≡ root.old) }
     ensures ticks { interns.new ≤ interns.old + (9 * length batch.now + 10) }
+    ensures retained { OnlyRootHeld context.old root.old → retains.new ≤ retains.old + most_retained (root_set context.old root.old) (graph_after change context.old root.old batch.now) (length batch.now) }
 {
     context.is_kept();
     let mut log = Log::new(alloc);
@@ -76,10 +81,12 @@ pub fn grow_open<M: Mix, W: Ledger, V: Ledger>(
     requires size { set.len (with_batch context.old root.old batch.now) ≤ 536870912 }
     ensures set { OnOk result (root_set context.new root.new ≡ with_batch context.old root.old batch.now) }
     ensures logged { IfOk result (λ u. IsLogged M.mixed context.old context.new [] u.log.steps (root_hold root.new) (root_hold root.old) (2 ^ 65)) }
+    ensures places { IfOk result (λ u. ArePlacesBeside u.log.steps (reserved_in context.old) (reserved_in context.new)) }
     ensures was { IfOk result (λ u. u.was ≡ root.old) }
     ensures tables { OnErr result (context.new ≡ context.old) }
     ensures root { OnErr result (root.new ≡ root.old) }
     ensures ticks { interns.new ≤ interns.old + (9 * length batch.now + 10) }
+    ensures retained { OnlyRootHeld context.old root.old → retains.new ≤ retains.old + most_retained (root_set context.old root.old) (with_batch context.old root.old batch.now) (length batch.now) }
 {
     change_open(alloc, context, Change::Grow, root, batch, interns, retains)
 }
@@ -100,10 +107,12 @@ pub fn shrink_open<M: Mix, W: Ledger, V: Ledger>(
     requires size { set.len (with_batch context.old root.old batch.now) ≤ 536870912 }
     ensures set { OnOk result (root_set context.new root.new ≡ without_batch context.old root.old batch.now) }
     ensures logged { IfOk result (λ u. IsLogged M.mixed context.old context.new [] u.log.steps (root_hold root.new) (root_hold root.old) (2 ^ 65)) }
+    ensures places { IfOk result (λ u. ArePlacesBeside u.log.steps (reserved_in context.old) (reserved_in context.new)) }
     ensures was { IfOk result (λ u. u.was ≡ root.old) }
     ensures tables { OnErr result (context.new ≡ context.old) }
     ensures root { OnErr result (root.new ≡ root.old) }
     ensures ticks { interns.new ≤ interns.old + (9 * length batch.now + 10) }
+    ensures retained { OnlyRootHeld context.old root.old → retains.new ≤ retains.old + most_retained (root_set context.old root.old) (without_batch context.old root.old batch.now) (length batch.now) }
 {
     change_open(
         alloc,

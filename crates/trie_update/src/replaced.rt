@@ -1,5 +1,5 @@
 //! The root of a graph replaced by that of the changed graph.
-ghost use Rattle.std.specs.Prelude.{◌≡◌, ◌+◌, ◌*◌, ◌<◌, ◌≤◌, ◌^◌, ℕ, IfSome, IfOk, OnErr, length};
+ghost use Rattle.std.specs.Prelude.{◌≡◌, ◌+◌, ◌*◌, ◌<◌, ◌≤◌, ◌^◌, ℕ, IsNone, IfSome, IfOk, OnErr, length};
 ghost use Rattle.std.specs.FinSet as set;
 ghost use Rattle.hypertrie_model.specs.Changes.{IsChange};
 ghost use Rattle.trie_depth.specs.Tuples.{trip_tuple};
@@ -13,6 +13,8 @@ ghost use Rattle.trie_change.specs.After.{triples_of, graph_after};
 ghost use Rattle.trie_change.specs.Batches.{IsOnce};
 ghost use Rattle.trie_change.specs.Changes.{grows};
 ghost use Rattle.trie_change.specs.Rooms.{CountsUpTo};
+ghost use Rattle.trie_context.specs.RootShape.{OnlyRootHeld};
+ghost use Rattle.trie_update.specs.Retained.{most_retained};
 
 use change_log::{Log, RowStep, Step};
 use edge_map::Edge;
@@ -39,6 +41,7 @@ fn row_to_open<M: Mix>(context: &Context<M>, root: &Root, batch: usize) -> Optio
     ensures there { IfSome result (λ row. root.now ≡ Root.Many row) }
     ensures alone { IfSome result (λ row. count_of (row_of context.now 3 row) ≤ 1) }
     ensures large { IfSome result (λ row. 2 * batch + 2 ≤ set.len (set_of context.now 3 row)) }
+    ensures small { IsNone result → OnlyRootHeld context.now root.now → set.len (root_set context.now root.now) ≤ 2 * batch + 1 }
 {
     let Root::Many(held) = root else {
         return None;
@@ -73,6 +76,7 @@ fn copy_root<M: Mix, W: Ledger, V: Ledger>(
     ensures logged { IfOk result (λ new. IsLogged M.mixed context.old context.new log.old.steps log.new.steps (root_hold new) (root_hold root.now) (2 ^ 65)) }
     ensures grew { OnErr result (Grows M.mixed context.old context.new log.old.steps log.new.steps) }
     ensures ticks { interns.new ≤ interns.old + (9 * length batch.now + 10) }
+    ensures retained { retains.new ≤ retains.old + 9 * (set.len (root_set context.old root.now) + length batch.now) }
 {
     context.is_kept();
     log.reserve()?;
@@ -102,6 +106,7 @@ pub fn replace_root<M: Mix, W: Ledger, V: Ledger>(
     ensures logged { IfOk result (λ new. IsLogged M.mixed context.old context.new log.old.steps log.new.steps (root_hold new) (root_hold root.now) (2 ^ 65)) }
     ensures grew { OnErr result (Grows M.mixed context.old context.new log.old.steps log.new.steps) }
     ensures ticks { interns.new ≤ interns.old + (9 * length batch.now + 10) }
+    ensures retained { OnlyRootHeld context.old root.now → retains.new ≤ retains.old + most_retained (root_set context.old root.now) (graph_after change context.old root.now batch.now) (length batch.now) }
 {
     match row_to_open(context, root, batch.len()) {
         Some(row) => reopen_triples(alloc, context, change, row, batch, log, interns, retains),

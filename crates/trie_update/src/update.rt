@@ -10,6 +10,8 @@ ghost use Rattle.trie_change.specs.After.{triples_of, graph_after, with_batch, w
 ghost use Rattle.trie_change.specs.Batches.{IsOnce};
 ghost use Rattle.trie_change.specs.Changes.{grows};
 ghost use Rattle.trie_change.specs.Rooms.{CountsUpTo, HeldStay};
+ghost use Rattle.trie_context.specs.RootShape.{OnlyRootHeld};
+ghost use Rattle.trie_update.specs.Retained.{most_retained};
 
 use crate::end::settle;
 use crate::open::change_open;
@@ -43,6 +45,7 @@ fn update<M: Mix, W: Ledger, V: Ledger>(
     ensures tables { OnErr result (context.new ≡ context.old) }
     ensures root { OnErr result (root.new ≡ root.old) }
     ensures ticks { interns.new ≤ interns.old + (9 * length batch.now + 10) }
+    ensures retained { OnlyRootHeld context.old root.old → retains.new ≤ retains.old + most_retained (root_set context.old root.old) (graph_after change context.old root.old batch.now) (length batch.now) }
 {
     context.is_kept();
     let undo = change_open(alloc, context, change, root, batch, interns, retains)?;
@@ -72,6 +75,7 @@ pub fn grow<M: Mix, W: Ledger, V: Ledger>(
     ensures tables { OnErr result (context.new ≡ context.old) }
     ensures root { OnErr result (root.new ≡ root.old) }
     ensures ticks { interns.new ≤ interns.old + (9 * length batch.now + 10) }
+    ensures retained { OnlyRootHeld context.old root.old → retains.new ≤ retains.old + most_retained (root_set context.old root.old) (with_batch context.old root.old batch.now) (length batch.now) }
 {
     update(alloc, context, Change::Grow, root, batch, interns, retains)
 }
@@ -98,6 +102,7 @@ pub fn shrink<M: Mix, W: Ledger, V: Ledger>(
     ensures tables { OnErr result (context.new ≡ context.old) }
     ensures root { OnErr result (root.new ≡ root.old) }
     ensures ticks { interns.new ≤ interns.old + (9 * length batch.now + 10) }
+    ensures retained { OnlyRootHeld context.old root.old → retains.new ≤ retains.old + most_retained (root_set context.old root.old) (without_batch context.old root.old batch.now) (length batch.now) }
 {
     update(
         alloc,

@@ -1,7 +1,5 @@
-use Rattle.std.proofs.Common.{rules, ◌≡◌, IfOk, ◌+◌, ◌≤◌, length, refl, subst, sym, ap, ◌∙◌, arith, Some}
-use Rattle.std.specs.Ordering.{nat_cmp}
+use Rattle.std.proofs.Common.{◌≡◌, IfOk, ◌+◌, ◌≤◌, length, refl, subst, sym, arith, Some}
 use Rattle.hypertrie_model.specs.Changes.{after}
-use Rattle.hypertrie_model.specs.Slices.{slice}
 use Rattle.trie_depth.specs.Tuples.{trip_tuple}
 use Rattle.trie_node.specs.declared.node.Node.{Node}
 use Rattle.trie_node.specs.declared.node.Node.TheVariants.{Full}

@@ -29,4 +29,5 @@ returns g c =
       tables = tt;
       root = tt;
       ticks = c.change_open.ensures.ticks;
+      retained = c.change_open.ensures.retained;
     }

@@ -1,6 +1,7 @@
 pub mod State
 pub mod Stands
 pub mod Staging
+pub mod Retained
 pub mod Noted
 pub mod Forgotten
 pub mod StagingLaws

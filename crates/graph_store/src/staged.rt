@@ -8,6 +8,8 @@ ghost use Rattle.trie_context.specs.RootShape.{OnlyRootHeld};
 ghost use Rattle.ntriples_model.specs.Proper.{IsProperTriple};
 ghost use Rattle.graph_store.specs.State.{graph, most_triples, IsSettled};
 ghost use Rattle.graph_store.specs.Staging.{nothing_staged, staged_graph, is_held, StagesOne, Fits, before, IsFull};
+ghost use Rattle.graph_store.specs.Retained.{insert_retains};
+ghost use Rattle.trie_update.specs.Retained.{most_retained};
 ghost use Rattle.graph_store.specs.declared.staged.StageFault.TheVariants as fault;
 
 use crate::look_up::has;
@@ -151,6 +153,7 @@ impl<M: Mix> Store<M> {
         ensures max { self.new.max ≡ self.old.max }
         ensures before { OnErr result (self.new ≡ before self.old staged) }
         ensures ticks { interns.new ≤ interns.old + (9 * set.len (staged_graph self.old staged) + 10) }
+        ensures retained { retains.new ≤ retains.old + insert_retains self.old staged }
     {
         self.dict.is_one_to_one();
         let Staged { trips, added } = staged;
@@ -203,6 +206,7 @@ fn put_in<M: Mix, W: Ledger, V: Ledger>(
     ensures tables { OnErr result (context.new ≡ context.old) }
     ensures root { OnErr result (root.new ≡ root.old) }
     ensures ticks { interns.new ≤ interns.old + (9 * set.len trips + 10) }
+    ensures retained { retains.new ≤ retains.old + most_retained (root_set context.old root.old) (set.union (root_set context.old root.old) trips) (set.len trips) }
 {
     // This call tells the proof that the tables are kept.
     context.tables();

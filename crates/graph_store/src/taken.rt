@@ -1,5 +1,5 @@
 //! Triples that are marked, and then deleted together.
-ghost use Rattle.std.specs.Prelude.{◌≡◌, ◌+◌, ◌*◌, ◌≤◌, ℕ, true, false, IsSome, IfSome, IfOk, OnOk, OnErr};
+ghost use Rattle.std.specs.Prelude.{◌≡◌, ◌+◌, ◌*◌, ◌≤◌, ℕ, true, false, IsSome, IfSome, IfOk, OnOk, OnErr, length};
 ghost use Rattle.std.specs.FinMap as map;
 ghost use Rattle.std.specs.FinSet as set;
 ghost use Rattle.rdf_term.specs.Seen.{lent_triple};
@@ -11,6 +11,8 @@ ghost use Rattle.trie_change.specs.Batches.{set_of_entries, IsOnce};
 ghost use Rattle.trie_view.specs.Subs.{sub_depth, sub_set};
 ghost use Rattle.graph_image.specs.Images.{is_among, IsUsed};
 ghost use Rattle.graph_view.specs.Read.{set_in};
+ghost use Rattle.graph_store.specs.Retained.{delete_retains};
+ghost use Rattle.trie_update.specs.Retained.{most_retained};
 ghost use Rattle.graph_store.specs.State.{graph, most_triples, IsSettled};
 ghost use Rattle.graph_store.specs.Staging.{marked_graph, MarksOne, AreMarked, numbers, AreDistinct};
 ghost use Rattle.graph_store.specs.Forgotten.{Forgets};
@@ -92,6 +94,7 @@ impl<M: Mix> Store<M> {
         ensures max { self.new.max ≡ self.old.max }
         ensures kept { OnErr result (self.new ≡ self.old) }
         ensures ticks { interns.new ≤ interns.old + (9 * set.len (marked_graph self.old taken) + 10) }
+        ensures retained { retains.new ≤ retains.old + delete_retains self.old taken }
     {
         self.dict.is_one_to_one();
         let Taken { trips } = taken;
@@ -132,6 +135,7 @@ fn take_out<M: Mix, W: Ledger, V: Ledger>(
     ensures tables { OnErr result (context.new ≡ context.old) }
     ensures root { OnErr result (root.new ≡ root.old) }
     ensures ticks { interns.new ≤ interns.old + (9 * set.len (set_of_entries trip_tuple batch.now) + 10) }
+    ensures retained { retains.new ≤ retains.old + most_retained (root_set context.old root.old) (set.difference (root_set context.old root.old) (set_of_entries trip_tuple batch.now)) (length batch.now) }
 {
     // This call tells the proof that the tables are kept.
     context.tables();

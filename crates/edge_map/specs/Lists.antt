@@ -5,14 +5,15 @@ use Rattle.edge_map.specs.declared.edge.Edge.{Edge}
 use Rattle.edge_map.specs.declared.list.Listed.{Listed}
 use Rattle.edge_map.specs.declared.list.Listed.TheVariants.{Nothing, One, Many}
 use Rattle.edge_map.specs.Chunks.{flat}
+use Rattle.edge_map.specs.Pages.{paged, AreFull}
 
 abbrev pub chunks_in : Listed → List (List (Id × Edge))
 chunks_in Nothing = []
 chunks_in (One c) = c ∷ []
-chunks_in (Many long) = long.value.chunks.items
+chunks_in (Many long) = paged long.value.pages.items
 
 -- the number of entries stands beside many chunks
 abbrev pub IsCounted : Listed → Type 0
 IsCounted Nothing = Unit {0}
 IsCounted (One c) = Unit {0}
-IsCounted (Many long) = long.value.size ≡ length (flat long.value.chunks.items)
+IsCounted (Many long) = (long.value.size ≡ length (flat (paged long.value.pages.items))) × AreFull long.value.pages.items

@@ -1,23 +1,29 @@
 //! The chunks of a map. Most maps have one, which lies in the map itself; a longer list is shared by maps with the same chunks.
 ghost use Rattle.std.specs.Prelude.{◌≡◌, ◌≤◌, ◌^◌, [], IfOk, length};
+ghost use Rattle.std.proofs.Common.{option_to_list};
 ghost use Rattle.edge_map.specs.Chunks.{flat, seek_in, AreSized};
+ghost use Rattle.edge_map.specs.Pages.{paged, AreFull};
 ghost use Rattle.edge_map.specs.Entries.{KeysRise};
 
 use crate::chunk::Chunk;
-use crate::chunks::{seek, total};
 use crate::edge::Edge;
+use crate::page::Page;
+use crate::pages::{n_chunks, seek_paged, size_of_pages};
+use crate::rest::Rest;
 use std::alloc::Global;
 use std::cell::Cell;
 use std::marker::Model;
 use std::rc::Rc;
 use trie_depth::{Id, Memory};
 
-/// Chunks, and how many entries they have.
+/// Pages, and how many entries they have.
 #[derive(Drop)]
 pub struct Long {
     size: usize,
-    chunks: Vec<Chunk>,
-    /// How many chunks the last search passed.
+    pages: Vec<Page>,
+    /// How many pages the last search passed.
+    near_page: Cell<usize>,
+    /// How many chunks of a page the last search passed.
     near: Cell<usize>,
 }
 
@@ -61,26 +67,35 @@ impl ChunkList {
         }
     }
 
-    /// The same chunks, without a list of their own where they are one or none.
-    pub fn of(alloc: Global, chunks: Vec<Chunk>) -> Result<ChunkList, Memory>
-        requires { length (flat chunks.items) ≤ 2 ^ 32 }
-        ensures { IfOk result (λ list. list ≡ chunks.items) }
+    /// One chunk, or none.
+    pub fn few(chunk: Option<Chunk>) -> ChunkList
+        ensures { result ≡ option_to_list chunk }
     {
-        let mut chunks = chunks;
-        if chunks.len() > 1 {
-            let size = total(&chunks);
-            let near = Cell::new(0);
-            let long = Rc::new(alloc, Long { size, chunks, near })?;
-            return Ok(ChunkList {
-                listed: Listed::Many(long),
-            });
-        }
-        match chunks.pop() {
-            Some(chunk) => Ok(ChunkList {
+        match chunk {
+            Some(chunk) => ChunkList {
                 listed: Listed::One(chunk),
-            }),
-            None => Ok(ChunkList::new()),
+            },
+            None => ChunkList::new(),
         }
+    }
+
+    /// The chunks of the pages.
+    pub fn many(alloc: Global, pages: Vec<Page>) -> Result<ChunkList, Memory>
+        requires few { length (flat (paged pages.items)) ≤ 2 ^ 32 }
+        requires full { AreFull pages.items }
+        ensures { IfOk result (λ list. list ≡ paged pages.items) }
+    {
+        let size = size_of_pages(&pages);
+        let long = Long {
+            size,
+            pages,
+            near_page: Cell::new(0),
+            near: Cell::new(0),
+        };
+        let long = Rc::new(alloc, long)?;
+        Ok(ChunkList {
+            listed: Listed::Many(long),
+        })
     }
 
     /// The same chunks once more. A longer list is shared.
@@ -115,17 +130,30 @@ impl ChunkList {
         match &self.listed {
             Listed::Nothing => None,
             Listed::One(chunk) => chunk.seek(from),
-            Listed::Many(long) => seek(&long.chunks, from, &long.near),
+            Listed::Many(long) => seek_paged(&long.pages, from, &long.near_page, &long.near),
         }
     }
 
-    pub fn as_slice(&self) -> &[Chunk]
-        ensures { result.now ≡ self.now }
+    /// How many chunks there are.
+    pub fn count(&self) -> usize
+        requires { length self.now ≤ 2 ^ 32 }
+        ensures { result ≡ length self.now }
     {
         match &self.listed {
-            Listed::Nothing => &[],
-            Listed::One(chunk) => std::slice::from_ref(chunk),
-            Listed::Many(long) => &long.chunks,
+            Listed::Nothing => 0,
+            Listed::One(_) => 1,
+            Listed::Many(long) => n_chunks(&long.pages),
+        }
+    }
+
+    /// All chunks, to be gone through.
+    pub fn rest(&self) -> Rest<'_>
+        ensures { result ≡ self.now }
+    {
+        match &self.listed {
+            Listed::Nothing => Rest::of(&[], &[]),
+            Listed::One(chunk) => Rest::of(std::slice::from_ref(chunk), &[]),
+            Listed::Many(long) => Rest::of(&[], &long.pages),
         }
     }
 }

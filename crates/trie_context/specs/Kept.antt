@@ -1,14 +1,14 @@
 -- Kept tables: what holds of the rows of every depth before and after each call.
-use Rattle.std.specs.Prelude.{◌≡◌, ℕ, zero, suc, ◌+◌, ◌≤◌, Some}
+use Rattle.std.specs.Prelude.{◌≡◌, ℕ, zero, suc, ◌+◌, ◌-◌, ◌≤◌, Some}
 use Rattle.std.specs.FinMap as map
 use Rattle.hypertrie_model.specs.IdSets.{IdSet}
 use Rattle.node_table.specs.Table.{Row}
 use Rattle.trie_node.specs.declared.node.Node.{Node}
-use Rattle.trie_node.specs.Sets.{set_hash, hash_of_node}
+use Rattle.trie_node.specs.Sets.{set_hash, hash_of_node, edges_of}
 use Rattle.trie_node.specs.Forms.{IsKeyNode, IsPairNode, IsTripleNode}
 use Rattle.trie_context.specs.declared.tables.Tables.{Tables}
 use Rattle.trie_context.specs.Rows.{Rows, rows_at, sets_over}
-use Rattle.trie_context.specs.Holds.{count_of, edges_from, holds_of, SameReserved}
+use Rattle.trie_context.specs.Holds.{count_of, edges_from, holds_of, one_at, at_depth, SameReserved}
 
 -- a node of a depth in its form: Single is one pair, and every other node has two tuples or more and carries the size and the hash of its set;
 -- its maps have exactly the keys of their positions, and an edge stands for the slice by its key;
@@ -43,3 +43,7 @@ pub record AreMoved (mixed : ℕ → ℕ → ℕ → ℕ → ℕ) (old new : Tab
   pub kept : AreKept mixed new
   pub holds : (d r : ℕ) → holds_of new d r + given d r ≡ holds_of old d r + gained d r
   pub reserved : SameReserved old new
+
+-- one hold on the row is in hand, where those of the node's edges were
+abbrev pub IsStored : (ℕ → ℕ → ℕ → ℕ → ℕ) → ℕ → Tables → Tables → ℕ → Node → Type 0
+IsStored mixed depth old new row node = AreMoved mixed old new (at_depth depth (one_at row)) (at_depth (depth - 1) (edges_of node))

@@ -6,7 +6,7 @@ use Rattle.hypertrie_model.specs.IdSets.{IdSet}
 use Rattle.hypertrie_model.specs.Sets.{empty}
 use Rattle.edge_map.specs.declared.edge.Edge.{Edge}
 use Rattle.edge_map.specs.declared.edge.Edge.TheVariants.{Key, Node as ToRow}
-use Rattle.node_table.specs.Table.{Row, Table, empty_table}
+use Rattle.node_table.specs.Table.{Row, Table, empty_table, with_row}
 use Rattle.trie_node.specs.declared.node.Node.{Node}
 use Rattle.trie_node.specs.Sets.{key_set_of, pair_set_of, triple_set_of}
 use Rattle.trie_context.specs.declared.tables.Tables.{Tables}
@@ -33,6 +33,10 @@ put_table t (suc zero) table = record t { one = table }
 put_table t (suc (suc zero)) table = record t { two = table }
 put_table t (suc (suc (suc zero))) table = record t { three = table }
 put_table t (suc (suc (suc (suc d)))) table = t
+
+-- the tables with this row of a depth under a number
+abbrev pub put_row : Tables → ℕ → ℕ → Row Node → Tables
+put_row t depth number row = put_table t depth (with_row (table_at t depth) number row)
 
 abbrev pub rows_at : Tables → ℕ → Rows
 rows_at t d = (table_at t d).rows

@@ -5,7 +5,7 @@ ghost use Rattle.edge_map.specs.declared.edge.Edge.{Edge};
 ghost use Rattle.trie_node.specs.Sets.{leads, edges_in, edges_of, hash_of_node};
 ghost use Rattle.trie_context.specs.Rows.{no_tables, row_of, node_of, node_set, set_of, LeadsToRow};
 ghost use Rattle.trie_context.specs.Holds.{count_of, holds_of, one_at, at_depth, nothing, HasRoom, HasRoomForMap, CountsRiseBy, RowsStay};
-ghost use Rattle.trie_context.specs.Kept.{IsNode, AreKept, AreMoved};
+ghost use Rattle.trie_context.specs.Kept.{IsNode, AreKept, AreMoved, IsStored};
 ghost use Rattle.trie_context.specs.Interned.{IsInterned, kept_row, came_back};
 ghost use Rattle.trie_context.specs.Opened.{IsReserved, StandsForNoRow, discarded_at, HoldsAreMoved, IsOpened, IsClosed};
 
@@ -81,7 +81,7 @@ impl<M: Mix> Context<M> {
         requires held { (r : ℕ) → edges_of node r ≤ holds_of self.old (L.DEPTH - 1) r }
         requires room { HasRoom self.old }
         ensures there { IfOk result (λ k. node_of self.new L.DEPTH k ≡ Some node) }
-        ensures moved { IfOk result (λ k. AreMoved M.mixed self.old self.new (at_depth L.DEPTH (one_at k)) (at_depth (L.DEPTH - 1) (edges_of node))) }
+        ensures moved { IfOk result (λ k. IsStored M.mixed L.DEPTH self.old self.new k node) }
         ensures counts { IfOk result (λ k. CountsRiseBy self.old self.new (at_depth L.DEPTH (one_at k))) }
         ensures stay { OnOk result (RowsStay self.old self.new) }
         ensures given { OnErr result (AreMoved M.mixed self.old self.new nothing (at_depth (L.DEPTH - 1) (edges_of node))) }

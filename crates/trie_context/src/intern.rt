@@ -3,7 +3,7 @@ ghost use Rattle.std.specs.Prelude.{◌≡◌, ℕ, ◌-◌, ◌≤◌, IfOk, On
 ghost use Rattle.trie_node.specs.Sets.{edges_of};
 ghost use Rattle.trie_context.specs.Rows.{node_of, set_of};
 ghost use Rattle.trie_context.specs.Holds.{holds_of, one_at, at_depth, nothing, HasRoom, CountsRiseBy, RowsStay};
-ghost use Rattle.trie_context.specs.Kept.{IsNode, AreKept, AreMoved};
+ghost use Rattle.trie_context.specs.Kept.{IsNode, AreKept, AreMoved, IsStored};
 
 use crate::release::release_edges;
 use crate::tables::Tables;
@@ -19,7 +19,7 @@ pub fn intern_row<M: Mix>(tables: &mut Tables, depth: usize, node: Node) -> Resu
     requires form { IsNode M.mixed depth (set_of tables.old (depth - 1)) node }
     requires held { (r : ℕ) → edges_of node r ≤ holds_of tables.old (depth - 1) r }
     requires room { HasRoom tables.old }
-    ensures moved { IfOk result (λ k. AreMoved M.mixed tables.old tables.new (at_depth depth (one_at k)) (at_depth (depth - 1) (edges_of node))) }
+    ensures moved { IfOk result (λ k. IsStored M.mixed depth tables.old tables.new k node) }
     ensures there { IfOk result (λ k. node_of tables.new depth k ≡ Some node) }
     ensures counts { IfOk result (λ k. CountsRiseBy tables.old tables.new (at_depth depth (one_at k))) }
     ensures stay { OnOk result (RowsStay tables.old tables.new) }

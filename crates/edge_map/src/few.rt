@@ -3,7 +3,7 @@ ghost use Rattle.std.specs.Prelude.{◌≡◌, ℕ, ◌<◌, IfSome, IfOk, lengt
 ghost use Rattle.std.proofs.Common.{get_or};
 ghost use Rattle.trie_depth.specs.declared.id.Id.{Id};
 ghost use Rattle.edge_map.specs.declared.edge.Edge.{Edge};
-ghost use Rattle.edge_map.specs.Chunks.{first_key};
+ghost use Rattle.edge_map.specs.Chunks.{first_key, seek_in};
 ghost use Rattle.edge_map.specs.Few.{own_entry, key_entry, row_entry, own_entries, key_entries, row_entries};
 
 use crate::edge::Edge;
@@ -104,4 +104,40 @@ pub fn row_at(pairs: &[(u32, u32)], at: usize) -> (Id, Edge)
 {
     let (key, row) = pairs[at];
     (Id(key), Edge::Node(row as usize))
+}
+
+/// The first of the keys that isn't below `from`.
+pub fn seek_own(keys: &[u32], from: Id) -> Option<(Id, Edge)>
+    ensures { result ≡ seek_in from.0 (own_entries keys.now) }
+{
+    for at in 0..keys.len() {
+        if keys[at] >= from.0 {
+            return Some(own_at(keys, at));
+        }
+    }
+    None
+}
+
+/// The first of the keys that isn't below `from`, with the key that is its edge.
+pub fn seek_key(pairs: &[(u32, u32)], from: Id) -> Option<(Id, Edge)>
+    ensures { result ≡ seek_in from.0 (key_entries pairs.now) }
+{
+    for at in 0..pairs.len() {
+        if pairs[at].0 >= from.0 {
+            return Some(key_at(pairs, at));
+        }
+    }
+    None
+}
+
+/// The first of the keys that isn't below `from`, with the row that is its edge.
+pub fn seek_row(pairs: &[(u32, u32)], from: Id) -> Option<(Id, Edge)>
+    ensures { result ≡ seek_in from.0 (row_entries pairs.now) }
+{
+    for at in 0..pairs.len() {
+        if pairs[at].0 >= from.0 {
+            return Some(row_at(pairs, at));
+        }
+    }
+    None
 }

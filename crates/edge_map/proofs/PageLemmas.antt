@@ -231,3 +231,9 @@ opened_full old new page h is = full_init new page (subst AreFull is h)
 pub page_behind : (pages closed new : List (List (List (Id × Edge)))) (loose none self page shared : List (List (Id × Edge))) → paged pages ++ loose ≡ self → paged closed ≡ paged pages ++ loose → new ≡ closed ++ shared ∷ [] → shared ≡ page → none ≡ [] → paged new ++ none ≡ self ++ page
 page_behind pages closed new loose none self page shared view is push same empty =
     ap (λ cs. paged new ++ cs) empty ∙ nil_behind (paged new) ∙ pushed_page closed new shared page push same ∙ ap (λ cs. cs ++ page) (is ∙ view)
+
+-- the entries of a single page
+pub one_page : (ps : List (List (List (Id × Edge)))) → length ps ≡ 1 → flat (paged ps) ≡ get_or (by_page ps) 0 []
+one_page [] one = absurd (omega arith)
+one_page (p ∷ []) one = ap flat (nil_behind p)
+one_page (p ∷ q ∷ ps) one = absurd (omega arith)

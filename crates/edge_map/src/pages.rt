@@ -72,6 +72,9 @@ pub fn seek_paged(
     requires full { AreFull pages.now }
     ensures { result ≡ seek_in from.0 (flat (paged pages.now)) }
 {
+    if pages.len() == 1 {
+        return seek_one(pages, 0, from, near);
+    }
     let behind = n_below(pages, from, near_page.get());
     near_page.set(behind);
     if behind == 0 {

@@ -1,8 +1,9 @@
 -- The set that a list of tuples stands for once ids are fixed at some of its positions.
-use Rattle.std.specs.Prelude.{ℕ, suc, ◌/◌, ◌%◌, ◌^◌, ◌<◌, ◌&&◌, Bool, true, cond, nat_eq, List, [], ◌∷◌, map, Option, None, Some}
+use Rattle.std.specs.Prelude.{◌≡◌, ℕ, suc, ◌/◌, ◌%◌, ◌^◌, ◌<◌, ◌&&◌, Bool, true, cond, nat_eq, List, [], ◌∷◌, map, Option, None, Some}
 use Rattle.std.specs.List.{filter}
 use Rattle.std.specs.FinSet as set
 use Rattle.hypertrie_model.specs.IdSets.{IdSet}
+use Rattle.trie_depth.specs.Operands.{Admits}
 use Rattle.trie_depth.specs.declared.id.Id.{Id}
 use Rattle.trie_depth.specs.declared.id.Trip.{Trip}
 use Rattle.trie_depth.specs.Tuples.{trip_tuple}
@@ -43,6 +44,10 @@ agrees (p ∷ ps) [] = true
 agrees (None ∷ ps) (x ∷ t) = agrees ps t
 agrees (Some i ∷ ps) (x ∷ t) = nat_eq i x && agrees ps t
 
+-- the triple has each id that is fixed, and k at the mask
+abbrev pub HasAt : Fixed → ℕ → Trip → ℕ → Type 0
+HasAt fixed m t k = agrees (put m k (places_of fixed)) (trip_tuple t) ≡ true
+
 -- what stands at the free places
 abbrev pub left : List (Option ℕ) → List ℕ → List ℕ
 left [] t = t
@@ -56,6 +61,10 @@ set_of ts ps = set.from_list (map (left ps) (filter (agrees ps) ts))
 
 abbrev pub triples : List Trip → List (List ℕ)
 triples es = map trip_tuple es
+
+-- some triple of the list has what is fixed, and k at the mask
+abbrev pub HasKey : List Trip → Fixed → ℕ → ℕ → Type 0
+HasKey es fixed m k = Admits (set_of (triples es) (places_of fixed)) m k
 
 -- each number of the triple is the number of an id
 abbrev pub IsIdTriple : Trip → Type 0

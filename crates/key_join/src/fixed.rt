@@ -1,8 +1,8 @@
 //! The ids that are fixed at the positions of a triple.
-ghost use Rattle.std.specs.Prelude.{◌≡◌, ℕ, true, [], ◌∷◌, IfSome, MatchOption};
+ghost use Rattle.std.specs.Prelude.{◌≡◌, ℕ, [], ◌∷◌, IfSome, MatchOption};
 ghost use Rattle.trie_depth.specs.Masks.{FitsDepth};
 ghost use Rattle.trie_depth.specs.Tuples.{trip_tuple};
-ghost use Rattle.key_join.specs.Lists.{place_of, places_of, put_one, mask_behind, put, agrees, n_free};
+ghost use Rattle.key_join.specs.Lists.{place_of, places_of, put_one, mask_behind, put, agrees, n_free, HasAt};
 
 use trie_depth::{Id, Mask, Trip};
 
@@ -31,8 +31,8 @@ impl Fixed {
     /// The key of a triple at the mask, if the triple has what is fixed.
     pub fn key_of(self, mask: Mask, t: Trip) -> Option<Id>
         requires fits { FitsDepth mask.0 (n_free (places_of self)) }
-        ensures some { IfSome result (λ r. agrees (put mask.0 r.0 (places_of self)) (trip_tuple t) ≡ true) }
-        ensures only { (k : ℕ) → agrees (put mask.0 k (places_of self)) (trip_tuple t) ≡ true → MatchOption result ⊥ (λ r. r.0 ≡ k) }
+        ensures some { IfSome result (λ r. HasAt self mask.0 t r.0) }
+        ensures only { (k : ℕ) → HasAt self mask.0 t k → MatchOption result ⊥ (λ r. r.0 ≡ k) }
     {
         if self.with(mask, t.0).agrees(t) {
             return Some(t.0);

@@ -1,9 +1,8 @@
 //! The least key that the triples of a list have at a mask.
 ghost use Rattle.std.specs.Prelude.{◌≡◌, ◌<◌, ◌≤◌, ◌^◌, ℕ, IsNone, IfSome};
 ghost use Rattle.trie_depth.specs.Masks.{FitsDepth, lowest};
-ghost use Rattle.trie_depth.specs.Operands.{Admits};
 ghost use Rattle.key_join.specs.Least as of;
-ghost use Rattle.key_join.specs.Lists.{places_of, n_free, set_of, triples};
+ghost use Rattle.key_join.specs.Lists.{places_of, n_free, HasKey};
 
 use crate::fixed::Fixed;
 use trie_depth::{Id, Mask, Trip};
@@ -11,10 +10,10 @@ use trie_depth::{Id, Mask, Trip};
 /// The least key from `from` on at the mask, of the triples that have what is fixed.
 pub fn least(list: &[Trip], fixed: Fixed, mask: Mask, from: u64) -> Option<Id>
     requires fits { FitsDepth mask.0 (n_free (places_of fixed)) }
-    ensures none { IsNone result → (k : ℕ) → from ≤ k → Admits (set_of (triples list.now) (places_of fixed)) mask.0 k → ⊥ }
-    ensures there { IfSome result (λ r. Admits (set_of (triples list.now) (places_of fixed)) mask.0 r.0) }
+    ensures none { IsNone result → (k : ℕ) → from ≤ k → HasKey list.now fixed mask.0 k → ⊥ }
+    ensures there { IfSome result (λ r. HasKey list.now fixed mask.0 r.0) }
     ensures from { IfSome result (λ r. from ≤ r.0) }
-    ensures least { IfSome result (λ r. (k : ℕ) → from ≤ k → k < r.0 → Admits (set_of (triples list.now) (places_of fixed)) mask.0 k → ⊥) }
+    ensures least { IfSome result (λ r. (k : ℕ) → from ≤ k → k < r.0 → HasKey list.now fixed mask.0 k → ⊥) }
 {
     let mut best = None;
     for triple in list {

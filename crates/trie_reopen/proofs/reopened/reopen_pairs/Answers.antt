@@ -20,9 +20,64 @@ use Rattle.trie_change.specs.FigureLaws.{has_size, size_is, hash_is}
 use Rattle.trie_change.specs.PairLaws.{changes_of, if_ok, on_err}
 use Rattle.trie_reopen.proofs.Unmoved.{err_then}
 use Rattle.trie_reopen.proofs.OwnMaps.{slices_fit}
-use Rattle.trie_reopen.proofs.PairTurns.{starts, changes_one, first_held, parts_are, nothing_left, node_held, stored}
+use Rattle.trie_reopen.proofs.PairTurns.{Maps, starts, changes_one, first_held, parts_are, nothing_left, node_held, stored}
 use Rattle.trie_reopen.specs.Shared.{HoldsRiseBy}
+use Rattle.trie_reopen.proofs.reopened.reopen_pairs.Given as given
 use Rattle.trie_reopen.proofs.reopened.reopen_pairs.Goals as goal
+use Rattle.trie_reopen.proofs.reopened.reopen_pairs.Goals.{After-open_pairs, In_ok-one, In_ok-two}
+
+-- the row is taken out
+opened : (g : given.Over) (c : goal.After-open_pairs g) → Maps g.M.Mix.mixed c.args.context.now c.args.log.now.steps c.args.row c.open_pairs.new.context c.open_pairs.new.log.steps (set_of c.args.context.now 2 c.args.row) 0 c.in_ok-first.first (set_of c.args.context.now 2 c.args.row) 1 c.in_ok-first.second 0
+opened g c =
+    let t0 = c.args.context.now in
+    let l0 = c.args.log.now.steps in
+    let row = c.args.row in
+    let t1 = c.open_pairs.new.context in
+    let l1 = c.open_pairs.new.log.steps in
+    starts g.M.Mix.mixed t0 l0 row c.in_ok-first.first c.in_ok-first.second c.in_ok-first.ensures.first c.in_ok-first.ensures.second c.in_ok-first.ensures.edges t1 l1
+    (subst (λ l. (n : Node) × (node_of t0 2 row ≡ Some n) × IsLogged g.M.Mix.mixed t0 t1 l l1 (at_depth 1 (edges_of n)) (at_depth 2 (one_at row)) 0) c.in_ok-reserve.ensures.same c.open_pairs.ensures.opened) c.open_pairs.ensures.below
+
+-- its first map is changed
+one_done : (g : given.Over) (c : goal.In_ok-one g) → Maps g.M.Mix.mixed c.args.context.now c.args.log.now.steps c.args.row c.replace_pair_map.new.context c.replace_pair_map.new.log.steps (set_of c.args.context.now 2 c.args.row) 1 c.in_ok-first.second (after (grows c.args.change) (set_of c.args.context.now 2 c.args.row) (set_of_entries trip_rest c.args.run.now)) 0 c.in_ok-one.one (length c.deref.result.now)
+one_done g c =
+    let t0 = c.args.context.now in
+    let l0 = c.args.log.now.steps in
+    let row = c.args.row in
+    let H = set_of t0 2 row in
+    let B = set_of_entries trip_rest c.args.run.now in
+    let t1 = c.open_pairs.new.context in
+    let l1 = c.open_pairs.new.log.steps in
+    let s1 = starts g.M.Mix.mixed t0 l0 row c.in_ok-first.first c.in_ok-first.second c.in_ok-first.ensures.first c.in_ok-first.ensures.second c.in_ok-first.ensures.edges t1 l1
+    (subst (λ l. (n : Node) × (node_of t0 2 row ≡ Some n) × IsLogged g.M.Mix.mixed t0 t1 l l1 (at_depth 1 (edges_of n)) (at_depth 2 (one_at row)) 0) c.in_ok-reserve.ensures.same c.open_pairs.ensures.opened) c.open_pairs.ensures.below in
+    let n = c.deref.result.now in
+    let t2 = c.replace_pair_map.new.context in
+    let l2 = c.replace_pair_map.new.log.steps in
+    changes_one g.M.Mix.mixed t0 l0 row c.args.change t1 l1 H B 0 c.in_ok-first.first H 1 c.in_ok-first.second 0 s1 (set_of_entries pair_tuple n) (λ k. ap (λ ps. slice nat_cmp (set_of_entries pair_tuple ps) 0 k) c.deref.ensures.value ∙ c.in_ok-by_first.ensures.slices k)
+    t2 l2 c.in_ok-one.one (length n) c.in_ok-one.ensures.logged c.in_ok-one.ensures.changed (length n) (omega arith)
+
+-- and its second
+two_done : (g : given.Over) (c : goal.In_ok-two g) → Maps g.M.Mix.mixed c.args.context.now c.args.log.now.steps c.args.row c.replace_pair_map-2.new.context c.replace_pair_map-2.new.log.steps (after (grows c.args.change) (set_of c.args.context.now 2 c.args.row) (set_of_entries trip_rest c.args.run.now)) 0 c.in_ok-one.one (after (grows c.args.change) (set_of c.args.context.now 2 c.args.row) (set_of_entries trip_rest c.args.run.now)) 1 c.in_ok-two.two (length c.deref.result.now + length c.deref-2.result.now)
+two_done g c =
+    let t0 = c.args.context.now in
+    let l0 = c.args.log.now.steps in
+    let row = c.args.row in
+    let H = set_of t0 2 row in
+    let B = set_of_entries trip_rest c.args.run.now in
+    let t1 = c.open_pairs.new.context in
+    let l1 = c.open_pairs.new.log.steps in
+    let s1 = starts g.M.Mix.mixed t0 l0 row c.in_ok-first.first c.in_ok-first.second c.in_ok-first.ensures.first c.in_ok-first.ensures.second c.in_ok-first.ensures.edges t1 l1
+    (subst (λ l. (n : Node) × (node_of t0 2 row ≡ Some n) × IsLogged g.M.Mix.mixed t0 t1 l l1 (at_depth 1 (edges_of n)) (at_depth 2 (one_at row)) 0) c.in_ok-reserve.ensures.same c.open_pairs.ensures.opened) c.open_pairs.ensures.below in
+    let n = c.deref.result.now in
+    let t2 = c.replace_pair_map.new.context in
+    let l2 = c.replace_pair_map.new.log.steps in
+    let s2 = changes_one g.M.Mix.mixed t0 l0 row c.args.change t1 l1 H B 0 c.in_ok-first.first H 1 c.in_ok-first.second 0 s1 (set_of_entries pair_tuple n) (λ k. ap (λ ps. slice nat_cmp (set_of_entries pair_tuple ps) 0 k) c.deref.ensures.value ∙ c.in_ok-by_first.ensures.slices k)
+    t2 l2 c.in_ok-one.one (length n) c.in_ok-one.ensures.logged c.in_ok-one.ensures.changed (length n) (omega arith) in
+    let m = c.deref-2.result.now in
+    let t3 = c.replace_pair_map-2.new.context in
+    let l3 = c.replace_pair_map-2.new.log.steps in
+    let G = after (grows c.args.change) H B in
+    changes_one g.M.Mix.mixed t0 l0 row c.args.change t2 l2 H B 1 c.in_ok-first.second G 0 c.in_ok-one.one (length n) s2 (set_of_entries pair_tuple m) (λ k. ap (λ ps. slice nat_cmp (set_of_entries pair_tuple ps) 0 k) c.deref-2.ensures.value ∙ c.in_ok-by_second.ensures.slices k)
+    t3 l3 c.in_ok-two.two (length m) c.in_ok-two.ensures.logged c.in_ok-two.ensures.changed (length n + length m) (omega arith)
 
 pub changed_size-size-requires : goal.changed_size-size-requires
 changed_size-size-requires g c =
@@ -43,14 +98,11 @@ pairs_by_key-requires-2-clause-once g c =
 pub replace_pair_map-requires-clause-entries : goal.replace_pair_map-requires-clause-entries
 replace_pair_map-requires-clause-entries g c =
     let t0 = c.args.context.now in
-    let l0 = c.args.log.now.steps in
     let row = c.args.row in
     let H = set_of t0 2 row in
     let B = set_of_entries trip_rest c.args.run.now in
     let t1 = c.open_pairs.new.context in
-    let l1 = c.open_pairs.new.log.steps in
-    let s1 = starts g.M.Mix.mixed t0 l0 row c.in_ok-first.first c.in_ok-first.second c.in_ok-first.ensures.first c.in_ok-first.ensures.second c.in_ok-first.ensures.edges t1 l1
-    (subst (λ l. (n : Node) × (node_of t0 2 row ≡ Some n) × IsLogged g.M.Mix.mixed t0 t1 l l1 (at_depth 1 (edges_of n)) (at_depth 2 (one_at row)) 0) c.in_ok-reserve.ensures.same c.open_pairs.ensures.opened) c.open_pairs.ensures.below in
+    let s1 = opened g (goal.at.replace_pair_map-requires-clause-entries g c).After-open_pairs in
     record {
       fits = slices_fit t1 1 H 0 c.in_ok-first.first s1.one;
       order = search rules;
@@ -63,44 +115,25 @@ replace_pair_map-requires-clause-held g c =
     let l0 = c.args.log.now.steps in
     let row = c.args.row in
     let H = set_of t0 2 row in
-    let B = set_of_entries trip_rest c.args.run.now in
     let t1 = c.open_pairs.new.context in
     let l1 = c.open_pairs.new.log.steps in
-    let s1 = starts g.M.Mix.mixed t0 l0 row c.in_ok-first.first c.in_ok-first.second c.in_ok-first.ensures.first c.in_ok-first.ensures.second c.in_ok-first.ensures.edges t1 l1
-    (subst (λ l. (n : Node) × (node_of t0 2 row ≡ Some n) × IsLogged g.M.Mix.mixed t0 t1 l l1 (at_depth 1 (edges_of n)) (at_depth 2 (one_at row)) 0) c.in_ok-reserve.ensures.same c.open_pairs.ensures.opened) c.open_pairs.ensures.below in
+    let s1 = opened g (goal.at.replace_pair_map-requires-clause-held g c).After-open_pairs in
     first_held g.M.Mix.mixed t0 l0 row t1 l1 H 0 c.in_ok-first.first H 1 c.in_ok-first.second 0 s1
 
 pub replace_pair_map-requires-clause-room : goal.replace_pair_map-requires-clause-room
 replace_pair_map-requires-clause-room g c d r =
-    let t0 = c.args.context.now in
-    let l0 = c.args.log.now.steps in
-    let row = c.args.row in
-    let H = set_of t0 2 row in
-    let B = set_of_entries trip_rest c.args.run.now in
-    let t1 = c.open_pairs.new.context in
-    let l1 = c.open_pairs.new.log.steps in
-    let s1 = starts g.M.Mix.mixed t0 l0 row c.in_ok-first.first c.in_ok-first.second c.in_ok-first.ensures.first c.in_ok-first.ensures.second c.in_ok-first.ensures.edges t1 l1
-    (subst (λ l. (n : Node) × (node_of t0 2 row ≡ Some n) × IsLogged g.M.Mix.mixed t0 t1 l l1 (at_depth 1 (edges_of n)) (at_depth 2 (one_at row)) 0) c.in_ok-reserve.ensures.same c.open_pairs.ensures.opened) c.open_pairs.ensures.below in
+    let s1 = opened g (goal.at.replace_pair_map-requires-clause-room g c).After-open_pairs in
     let many : length c.deref.result.now ≡ length c.args.run.now = ap length c.deref.ensures.value ∙ c.in_ok-by_first.ensures.len in
     omega (arith, c.requires.room d r, s1.logged.counts d r, many)
 
 pub replace_pair_map-requires-2-clause-entries : goal.replace_pair_map-requires-2-clause-entries
 replace_pair_map-requires-2-clause-entries g c =
     let t0 = c.args.context.now in
-    let l0 = c.args.log.now.steps in
     let row = c.args.row in
     let H = set_of t0 2 row in
     let B = set_of_entries trip_rest c.args.run.now in
-    let t1 = c.open_pairs.new.context in
-    let l1 = c.open_pairs.new.log.steps in
-    let s1 = starts g.M.Mix.mixed t0 l0 row c.in_ok-first.first c.in_ok-first.second c.in_ok-first.ensures.first c.in_ok-first.ensures.second c.in_ok-first.ensures.edges t1 l1
-    (subst (λ l. (n : Node) × (node_of t0 2 row ≡ Some n) × IsLogged g.M.Mix.mixed t0 t1 l l1 (at_depth 1 (edges_of n)) (at_depth 2 (one_at row)) 0) c.in_ok-reserve.ensures.same c.open_pairs.ensures.opened) c.open_pairs.ensures.below in
-    let n = c.deref.result.now in
-    let many : length n ≡ length c.args.run.now = ap length c.deref.ensures.value ∙ c.in_ok-by_first.ensures.len in
     let t2 = c.replace_pair_map.new.context in
-    let l2 = c.replace_pair_map.new.log.steps in
-    let s2 = changes_one g.M.Mix.mixed t0 l0 row c.args.change t1 l1 H B 0 c.in_ok-first.first H 1 c.in_ok-first.second 0 s1 (set_of_entries pair_tuple n) (λ k. ap (λ ps. slice nat_cmp (set_of_entries pair_tuple ps) 0 k) c.deref.ensures.value ∙ c.in_ok-by_first.ensures.slices k)
-    t2 l2 c.in_ok-one.one (length n) c.in_ok-one.ensures.logged c.in_ok-one.ensures.changed (length n) (omega arith) in
+    let s2 = one_done g (goal.at.replace_pair_map-requires-2-clause-entries g c).In_ok-one in
     record {
       fits = slices_fit t2 1 H 1 c.in_ok-first.second s2.one;
       order = search rules;
@@ -114,35 +147,17 @@ replace_pair_map-requires-2-clause-held g c =
     let row = c.args.row in
     let H = set_of t0 2 row in
     let B = set_of_entries trip_rest c.args.run.now in
-    let t1 = c.open_pairs.new.context in
-    let l1 = c.open_pairs.new.log.steps in
-    let s1 = starts g.M.Mix.mixed t0 l0 row c.in_ok-first.first c.in_ok-first.second c.in_ok-first.ensures.first c.in_ok-first.ensures.second c.in_ok-first.ensures.edges t1 l1
-    (subst (λ l. (n : Node) × (node_of t0 2 row ≡ Some n) × IsLogged g.M.Mix.mixed t0 t1 l l1 (at_depth 1 (edges_of n)) (at_depth 2 (one_at row)) 0) c.in_ok-reserve.ensures.same c.open_pairs.ensures.opened) c.open_pairs.ensures.below in
     let n = c.deref.result.now in
-    let many : length n ≡ length c.args.run.now = ap length c.deref.ensures.value ∙ c.in_ok-by_first.ensures.len in
     let t2 = c.replace_pair_map.new.context in
     let l2 = c.replace_pair_map.new.log.steps in
-    let s2 = changes_one g.M.Mix.mixed t0 l0 row c.args.change t1 l1 H B 0 c.in_ok-first.first H 1 c.in_ok-first.second 0 s1 (set_of_entries pair_tuple n) (λ k. ap (λ ps. slice nat_cmp (set_of_entries pair_tuple ps) 0 k) c.deref.ensures.value ∙ c.in_ok-by_first.ensures.slices k)
-    t2 l2 c.in_ok-one.one (length n) c.in_ok-one.ensures.logged c.in_ok-one.ensures.changed (length n) (omega arith) in
+    let s2 = one_done g (goal.at.replace_pair_map-requires-2-clause-held g c).In_ok-one in
     first_held g.M.Mix.mixed t0 l0 row t2 l2 H 1 c.in_ok-first.second (after (grows c.args.change) H B) 0 c.in_ok-one.one (length n) s2
 
 pub replace_pair_map-requires-2-clause-room : goal.replace_pair_map-requires-2-clause-room
 replace_pair_map-requires-2-clause-room g c d r =
-    let t0 = c.args.context.now in
-    let l0 = c.args.log.now.steps in
-    let row = c.args.row in
-    let H = set_of t0 2 row in
-    let B = set_of_entries trip_rest c.args.run.now in
-    let t1 = c.open_pairs.new.context in
-    let l1 = c.open_pairs.new.log.steps in
-    let s1 = starts g.M.Mix.mixed t0 l0 row c.in_ok-first.first c.in_ok-first.second c.in_ok-first.ensures.first c.in_ok-first.ensures.second c.in_ok-first.ensures.edges t1 l1
-    (subst (λ l. (n : Node) × (node_of t0 2 row ≡ Some n) × IsLogged g.M.Mix.mixed t0 t1 l l1 (at_depth 1 (edges_of n)) (at_depth 2 (one_at row)) 0) c.in_ok-reserve.ensures.same c.open_pairs.ensures.opened) c.open_pairs.ensures.below in
     let n = c.deref.result.now in
     let many : length n ≡ length c.args.run.now = ap length c.deref.ensures.value ∙ c.in_ok-by_first.ensures.len in
-    let t2 = c.replace_pair_map.new.context in
-    let l2 = c.replace_pair_map.new.log.steps in
-    let s2 = changes_one g.M.Mix.mixed t0 l0 row c.args.change t1 l1 H B 0 c.in_ok-first.first H 1 c.in_ok-first.second 0 s1 (set_of_entries pair_tuple n) (λ k. ap (λ ps. slice nat_cmp (set_of_entries pair_tuple ps) 0 k) c.deref.ensures.value ∙ c.in_ok-by_first.ensures.slices k)
-    t2 l2 c.in_ok-one.one (length n) c.in_ok-one.ensures.logged c.in_ok-one.ensures.changed (length n) (omega arith) in
+    let s2 = one_done g (goal.at.replace_pair_map-requires-2-clause-room g c).In_ok-one in
     let more : length c.deref-2.result.now ≡ length c.args.run.now = ap length c.deref-2.ensures.value ∙ c.in_ok-by_second.ensures.len in
     omega (arith, c.requires.room d r, s2.logged.counts d r, many, more)
 
@@ -150,58 +165,27 @@ pub returns-in_err-one-clause-grew : goal.returns-in_err-one-clause-grew
 returns-in_err-one-clause-grew g c =
     let t0 = c.args.context.now in
     let l0 = c.args.log.now.steps in
-    let row = c.args.row in
-    let H = set_of t0 2 row in
-    let B = set_of_entries trip_rest c.args.run.now in
     let t1 = c.open_pairs.new.context in
     let l1 = c.open_pairs.new.log.steps in
-    let s1 = starts g.M.Mix.mixed t0 l0 row c.in_ok-first.first c.in_ok-first.second c.in_ok-first.ensures.first c.in_ok-first.ensures.second c.in_ok-first.ensures.edges t1 l1
-    (subst (λ l. (n : Node) × (node_of t0 2 row ≡ Some n) × IsLogged g.M.Mix.mixed t0 t1 l l1 (at_depth 1 (edges_of n)) (at_depth 2 (one_at row)) 0) c.in_ok-reserve.ensures.same c.open_pairs.ensures.opened) c.open_pairs.ensures.below in
+    let s1 = opened g (goal.at.returns-in_err-one-clause-grew g c).After-open_pairs in
     on_err _ c.from_residual-in_err-one.result (grows_on g.M.Mix.mixed t0 t1 c.replace_pair_map.new.context l0 l1 c.replace_pair_map.new.log.steps s1.logged.grew c.in_err-one.ensures.grew)
 
 pub returns-in_err-two-clause-grew : goal.returns-in_err-two-clause-grew
 returns-in_err-two-clause-grew g c =
     let t0 = c.args.context.now in
     let l0 = c.args.log.now.steps in
-    let row = c.args.row in
-    let H = set_of t0 2 row in
-    let B = set_of_entries trip_rest c.args.run.now in
-    let t1 = c.open_pairs.new.context in
-    let l1 = c.open_pairs.new.log.steps in
-    let s1 = starts g.M.Mix.mixed t0 l0 row c.in_ok-first.first c.in_ok-first.second c.in_ok-first.ensures.first c.in_ok-first.ensures.second c.in_ok-first.ensures.edges t1 l1
-    (subst (λ l. (n : Node) × (node_of t0 2 row ≡ Some n) × IsLogged g.M.Mix.mixed t0 t1 l l1 (at_depth 1 (edges_of n)) (at_depth 2 (one_at row)) 0) c.in_ok-reserve.ensures.same c.open_pairs.ensures.opened) c.open_pairs.ensures.below in
-    let n = c.deref.result.now in
-    let many : length n ≡ length c.args.run.now = ap length c.deref.ensures.value ∙ c.in_ok-by_first.ensures.len in
     let t2 = c.replace_pair_map.new.context in
     let l2 = c.replace_pair_map.new.log.steps in
-    let s2 = changes_one g.M.Mix.mixed t0 l0 row c.args.change t1 l1 H B 0 c.in_ok-first.first H 1 c.in_ok-first.second 0 s1 (set_of_entries pair_tuple n) (λ k. ap (λ ps. slice nat_cmp (set_of_entries pair_tuple ps) 0 k) c.deref.ensures.value ∙ c.in_ok-by_first.ensures.slices k)
-    t2 l2 c.in_ok-one.one (length n) c.in_ok-one.ensures.logged c.in_ok-one.ensures.changed (length n) (omega arith) in
+    let s2 = one_done g (goal.at.returns-in_err-two-clause-grew g c).In_ok-one in
     on_err _ c.from_residual-in_err-two.result (grows_on g.M.Mix.mixed t0 t2 c.replace_pair_map-2.new.context l0 l2 c.replace_pair_map-2.new.log.steps s2.logged.grew c.in_err-two.ensures.grew)
 
 pub returns-then-size-eq0-clause-stands : goal.returns-then-size-eq0-clause-stands
 returns-then-size-eq0-clause-stands g c =
     let t0 = c.args.context.now in
-    let l0 = c.args.log.now.steps in
     let row = c.args.row in
     let H = set_of t0 2 row in
     let B = set_of_entries trip_rest c.args.run.now in
-    let t1 = c.open_pairs.new.context in
-    let l1 = c.open_pairs.new.log.steps in
-    let s1 = starts g.M.Mix.mixed t0 l0 row c.in_ok-first.first c.in_ok-first.second c.in_ok-first.ensures.first c.in_ok-first.ensures.second c.in_ok-first.ensures.edges t1 l1
-    (subst (λ l. (n : Node) × (node_of t0 2 row ≡ Some n) × IsLogged g.M.Mix.mixed t0 t1 l l1 (at_depth 1 (edges_of n)) (at_depth 2 (one_at row)) 0) c.in_ok-reserve.ensures.same c.open_pairs.ensures.opened) c.open_pairs.ensures.below in
-    let n = c.deref.result.now in
-    let many : length n ≡ length c.args.run.now = ap length c.deref.ensures.value ∙ c.in_ok-by_first.ensures.len in
-    let t2 = c.replace_pair_map.new.context in
-    let l2 = c.replace_pair_map.new.log.steps in
-    let s2 = changes_one g.M.Mix.mixed t0 l0 row c.args.change t1 l1 H B 0 c.in_ok-first.first H 1 c.in_ok-first.second 0 s1 (set_of_entries pair_tuple n) (λ k. ap (λ ps. slice nat_cmp (set_of_entries pair_tuple ps) 0 k) c.deref.ensures.value ∙ c.in_ok-by_first.ensures.slices k)
-    t2 l2 c.in_ok-one.one (length n) c.in_ok-one.ensures.logged c.in_ok-one.ensures.changed (length n) (omega arith) in
-    let m = c.deref-2.result.now in
-    let more : length m ≡ length c.args.run.now = ap length c.deref-2.ensures.value ∙ c.in_ok-by_second.ensures.len in
-    let t3 = c.replace_pair_map-2.new.context in
-    let l3 = c.replace_pair_map-2.new.log.steps in
     let G = after (grows c.args.change) H B in
-    let s3 = changes_one g.M.Mix.mixed t0 l0 row c.args.change t2 l2 H B 1 c.in_ok-first.second G 0 c.in_ok-one.one (length n) s2 (set_of_entries pair_tuple m) (λ k. ap (λ ps. slice nat_cmp (set_of_entries pair_tuple ps) 0 k) c.deref-2.ensures.value ∙ c.in_ok-by_second.ensures.slices k)
-    t3 l3 c.in_ok-two.two (length m) c.in_ok-two.ensures.logged c.in_ok-two.ensures.changed (length n + length m) (omega arith) in
     let once = order_once trip_rest c.args.run.now c.requires.run.order in
     let sized : c.changed_size-size.result ≡ set.len G = c.changed_size-size.ensures ∙ size_is c.args.change H B c.requires.run.change c.pair_figures-size.result.0 (length c.args.run.now) c.pair_figures-size.ensures.size once in
     set.empty_of_len G (sym sized ∙ c.if-size-eq0.true)
@@ -213,23 +197,14 @@ returns-then-size-eq0-clause-logged g c =
     let row = c.args.row in
     let H = set_of t0 2 row in
     let B = set_of_entries trip_rest c.args.run.now in
-    let t1 = c.open_pairs.new.context in
-    let l1 = c.open_pairs.new.log.steps in
-    let s1 = starts g.M.Mix.mixed t0 l0 row c.in_ok-first.first c.in_ok-first.second c.in_ok-first.ensures.first c.in_ok-first.ensures.second c.in_ok-first.ensures.edges t1 l1
-    (subst (λ l. (n : Node) × (node_of t0 2 row ≡ Some n) × IsLogged g.M.Mix.mixed t0 t1 l l1 (at_depth 1 (edges_of n)) (at_depth 2 (one_at row)) 0) c.in_ok-reserve.ensures.same c.open_pairs.ensures.opened) c.open_pairs.ensures.below in
     let n = c.deref.result.now in
     let many : length n ≡ length c.args.run.now = ap length c.deref.ensures.value ∙ c.in_ok-by_first.ensures.len in
-    let t2 = c.replace_pair_map.new.context in
-    let l2 = c.replace_pair_map.new.log.steps in
-    let s2 = changes_one g.M.Mix.mixed t0 l0 row c.args.change t1 l1 H B 0 c.in_ok-first.first H 1 c.in_ok-first.second 0 s1 (set_of_entries pair_tuple n) (λ k. ap (λ ps. slice nat_cmp (set_of_entries pair_tuple ps) 0 k) c.deref.ensures.value ∙ c.in_ok-by_first.ensures.slices k)
-    t2 l2 c.in_ok-one.one (length n) c.in_ok-one.ensures.logged c.in_ok-one.ensures.changed (length n) (omega arith) in
     let m = c.deref-2.result.now in
     let more : length m ≡ length c.args.run.now = ap length c.deref-2.ensures.value ∙ c.in_ok-by_second.ensures.len in
     let t3 = c.replace_pair_map-2.new.context in
     let l3 = c.replace_pair_map-2.new.log.steps in
     let G = after (grows c.args.change) H B in
-    let s3 = changes_one g.M.Mix.mixed t0 l0 row c.args.change t2 l2 H B 1 c.in_ok-first.second G 0 c.in_ok-one.one (length n) s2 (set_of_entries pair_tuple m) (λ k. ap (λ ps. slice nat_cmp (set_of_entries pair_tuple ps) 0 k) c.deref-2.ensures.value ∙ c.in_ok-by_second.ensures.slices k)
-    t3 l3 c.in_ok-two.two (length m) c.in_ok-two.ensures.logged c.in_ok-two.ensures.changed (length n + length m) (omega arith) in
+    let s3 = two_done g (goal.at.returns-then-size-eq0-clause-logged g c).In_ok-two in
     let once = order_once trip_rest c.args.run.now c.requires.run.order in
     let sized : c.changed_size-size.result ≡ set.len G = c.changed_size-size.ensures ∙ size_is c.args.change H B c.requires.run.change c.pair_figures-size.result.0 (length c.args.run.now) c.pair_figures-size.ensures.size once in
     nothing_left g.M.Mix.mixed t0 l0 row t3 l3 G c.in_ok-one.one c.in_ok-two.two (length n + length m) s3 (set.empty_of_len G (sym sized ∙ c.if-size-eq0.true)) (run_room c.args.run.now) (omega (arith, many, more))
@@ -237,27 +212,12 @@ returns-then-size-eq0-clause-logged g c =
 pub store_pairs-requires-clause-form : goal.store_pairs-requires-clause-form
 store_pairs-requires-clause-form g c =
     let t0 = c.args.context.now in
-    let l0 = c.args.log.now.steps in
     let row = c.args.row in
     let H = set_of t0 2 row in
     let B = set_of_entries trip_rest c.args.run.now in
-    let t1 = c.open_pairs.new.context in
-    let l1 = c.open_pairs.new.log.steps in
-    let s1 = starts g.M.Mix.mixed t0 l0 row c.in_ok-first.first c.in_ok-first.second c.in_ok-first.ensures.first c.in_ok-first.ensures.second c.in_ok-first.ensures.edges t1 l1
-    (subst (λ l. (n : Node) × (node_of t0 2 row ≡ Some n) × IsLogged g.M.Mix.mixed t0 t1 l l1 (at_depth 1 (edges_of n)) (at_depth 2 (one_at row)) 0) c.in_ok-reserve.ensures.same c.open_pairs.ensures.opened) c.open_pairs.ensures.below in
-    let n = c.deref.result.now in
-    let many : length n ≡ length c.args.run.now = ap length c.deref.ensures.value ∙ c.in_ok-by_first.ensures.len in
-    let t2 = c.replace_pair_map.new.context in
-    let l2 = c.replace_pair_map.new.log.steps in
-    let s2 = changes_one g.M.Mix.mixed t0 l0 row c.args.change t1 l1 H B 0 c.in_ok-first.first H 1 c.in_ok-first.second 0 s1 (set_of_entries pair_tuple n) (λ k. ap (λ ps. slice nat_cmp (set_of_entries pair_tuple ps) 0 k) c.deref.ensures.value ∙ c.in_ok-by_first.ensures.slices k)
-    t2 l2 c.in_ok-one.one (length n) c.in_ok-one.ensures.logged c.in_ok-one.ensures.changed (length n) (omega arith) in
-    let m = c.deref-2.result.now in
-    let more : length m ≡ length c.args.run.now = ap length c.deref-2.ensures.value ∙ c.in_ok-by_second.ensures.len in
     let t3 = c.replace_pair_map-2.new.context in
-    let l3 = c.replace_pair_map-2.new.log.steps in
     let G = after (grows c.args.change) H B in
-    let s3 = changes_one g.M.Mix.mixed t0 l0 row c.args.change t2 l2 H B 1 c.in_ok-first.second G 0 c.in_ok-one.one (length n) s2 (set_of_entries pair_tuple m) (λ k. ap (λ ps. slice nat_cmp (set_of_entries pair_tuple ps) 0 k) c.deref-2.ensures.value ∙ c.in_ok-by_second.ensures.slices k)
-    t3 l3 c.in_ok-two.two (length m) c.in_ok-two.ensures.logged c.in_ok-two.ensures.changed (length n + length m) (omega arith) in
+    let s3 = two_done g (goal.at.store_pairs-requires-clause-form g c).In_ok-two in
     let once = order_once trip_rest c.args.run.now c.requires.run.order in
     let sized : c.changed_size-size.result ≡ set.len G = c.changed_size-size.ensures ∙ size_is c.args.change H B c.requires.run.change c.pair_figures-size.result.0 (length c.args.run.now) c.pair_figures-size.ensures.size once in
     let some : 1 ≤ set.len G = let not = c.if-size-eq0.false in omega arith in
@@ -268,27 +228,12 @@ store_pairs-requires-clause-form g c =
 pub store_pairs-requires-clause-filled : goal.store_pairs-requires-clause-filled
 store_pairs-requires-clause-filled g c =
     let t0 = c.args.context.now in
-    let l0 = c.args.log.now.steps in
     let row = c.args.row in
     let H = set_of t0 2 row in
     let B = set_of_entries trip_rest c.args.run.now in
-    let t1 = c.open_pairs.new.context in
-    let l1 = c.open_pairs.new.log.steps in
-    let s1 = starts g.M.Mix.mixed t0 l0 row c.in_ok-first.first c.in_ok-first.second c.in_ok-first.ensures.first c.in_ok-first.ensures.second c.in_ok-first.ensures.edges t1 l1
-    (subst (λ l. (n : Node) × (node_of t0 2 row ≡ Some n) × IsLogged g.M.Mix.mixed t0 t1 l l1 (at_depth 1 (edges_of n)) (at_depth 2 (one_at row)) 0) c.in_ok-reserve.ensures.same c.open_pairs.ensures.opened) c.open_pairs.ensures.below in
-    let n = c.deref.result.now in
-    let many : length n ≡ length c.args.run.now = ap length c.deref.ensures.value ∙ c.in_ok-by_first.ensures.len in
-    let t2 = c.replace_pair_map.new.context in
-    let l2 = c.replace_pair_map.new.log.steps in
-    let s2 = changes_one g.M.Mix.mixed t0 l0 row c.args.change t1 l1 H B 0 c.in_ok-first.first H 1 c.in_ok-first.second 0 s1 (set_of_entries pair_tuple n) (λ k. ap (λ ps. slice nat_cmp (set_of_entries pair_tuple ps) 0 k) c.deref.ensures.value ∙ c.in_ok-by_first.ensures.slices k)
-    t2 l2 c.in_ok-one.one (length n) c.in_ok-one.ensures.logged c.in_ok-one.ensures.changed (length n) (omega arith) in
-    let m = c.deref-2.result.now in
-    let more : length m ≡ length c.args.run.now = ap length c.deref-2.ensures.value ∙ c.in_ok-by_second.ensures.len in
     let t3 = c.replace_pair_map-2.new.context in
-    let l3 = c.replace_pair_map-2.new.log.steps in
     let G = after (grows c.args.change) H B in
-    let s3 = changes_one g.M.Mix.mixed t0 l0 row c.args.change t2 l2 H B 1 c.in_ok-first.second G 0 c.in_ok-one.one (length n) s2 (set_of_entries pair_tuple m) (λ k. ap (λ ps. slice nat_cmp (set_of_entries pair_tuple ps) 0 k) c.deref-2.ensures.value ∙ c.in_ok-by_second.ensures.slices k)
-    t3 l3 c.in_ok-two.two (length m) c.in_ok-two.ensures.logged c.in_ok-two.ensures.changed (length n + length m) (omega arith) in
+    let s3 = two_done g (goal.at.store_pairs-requires-clause-filled g c).In_ok-two in
     let once = order_once trip_rest c.args.run.now c.requires.run.order in
     let sized : c.changed_size-size.result ≡ set.len G = c.changed_size-size.ensures ∙ size_is c.args.change H B c.requires.run.change c.pair_figures-size.result.0 (length c.args.run.now) c.pair_figures-size.ensures.size once in
     let some : 1 ≤ set.len G = let not = c.if-size-eq0.false in omega arith in
@@ -303,23 +248,12 @@ store_pairs-requires-clause-held g c =
     let row = c.args.row in
     let H = set_of t0 2 row in
     let B = set_of_entries trip_rest c.args.run.now in
-    let t1 = c.open_pairs.new.context in
-    let l1 = c.open_pairs.new.log.steps in
-    let s1 = starts g.M.Mix.mixed t0 l0 row c.in_ok-first.first c.in_ok-first.second c.in_ok-first.ensures.first c.in_ok-first.ensures.second c.in_ok-first.ensures.edges t1 l1
-    (subst (λ l. (n : Node) × (node_of t0 2 row ≡ Some n) × IsLogged g.M.Mix.mixed t0 t1 l l1 (at_depth 1 (edges_of n)) (at_depth 2 (one_at row)) 0) c.in_ok-reserve.ensures.same c.open_pairs.ensures.opened) c.open_pairs.ensures.below in
     let n = c.deref.result.now in
-    let many : length n ≡ length c.args.run.now = ap length c.deref.ensures.value ∙ c.in_ok-by_first.ensures.len in
-    let t2 = c.replace_pair_map.new.context in
-    let l2 = c.replace_pair_map.new.log.steps in
-    let s2 = changes_one g.M.Mix.mixed t0 l0 row c.args.change t1 l1 H B 0 c.in_ok-first.first H 1 c.in_ok-first.second 0 s1 (set_of_entries pair_tuple n) (λ k. ap (λ ps. slice nat_cmp (set_of_entries pair_tuple ps) 0 k) c.deref.ensures.value ∙ c.in_ok-by_first.ensures.slices k)
-    t2 l2 c.in_ok-one.one (length n) c.in_ok-one.ensures.logged c.in_ok-one.ensures.changed (length n) (omega arith) in
     let m = c.deref-2.result.now in
-    let more : length m ≡ length c.args.run.now = ap length c.deref-2.ensures.value ∙ c.in_ok-by_second.ensures.len in
     let t3 = c.replace_pair_map-2.new.context in
     let l3 = c.replace_pair_map-2.new.log.steps in
     let G = after (grows c.args.change) H B in
-    let s3 = changes_one g.M.Mix.mixed t0 l0 row c.args.change t2 l2 H B 1 c.in_ok-first.second G 0 c.in_ok-one.one (length n) s2 (set_of_entries pair_tuple m) (λ k. ap (λ ps. slice nat_cmp (set_of_entries pair_tuple ps) 0 k) c.deref-2.ensures.value ∙ c.in_ok-by_second.ensures.slices k)
-    t3 l3 c.in_ok-two.two (length m) c.in_ok-two.ensures.logged c.in_ok-two.ensures.changed (length n + length m) (omega arith) in
+    let s3 = two_done g (goal.at.store_pairs-requires-clause-held g c).In_ok-two in
     let once = order_once trip_rest c.args.run.now c.requires.run.order in
     let sized : c.changed_size-size.result ≡ set.len G = c.changed_size-size.ensures ∙ size_is c.args.change H B c.requires.run.change c.pair_figures-size.result.0 (length c.args.run.now) c.pair_figures-size.ensures.size once in
     let some : 1 ≤ set.len G = let not = c.if-size-eq0.false in omega arith in
@@ -329,54 +263,22 @@ store_pairs-requires-clause-held g c =
 
 pub store_pairs-requires-clause-room : goal.store_pairs-requires-clause-room
 store_pairs-requires-clause-room g c d r =
-    let t0 = c.args.context.now in
-    let l0 = c.args.log.now.steps in
-    let row = c.args.row in
-    let H = set_of t0 2 row in
-    let B = set_of_entries trip_rest c.args.run.now in
-    let t1 = c.open_pairs.new.context in
-    let l1 = c.open_pairs.new.log.steps in
-    let s1 = starts g.M.Mix.mixed t0 l0 row c.in_ok-first.first c.in_ok-first.second c.in_ok-first.ensures.first c.in_ok-first.ensures.second c.in_ok-first.ensures.edges t1 l1
-    (subst (λ l. (n : Node) × (node_of t0 2 row ≡ Some n) × IsLogged g.M.Mix.mixed t0 t1 l l1 (at_depth 1 (edges_of n)) (at_depth 2 (one_at row)) 0) c.in_ok-reserve.ensures.same c.open_pairs.ensures.opened) c.open_pairs.ensures.below in
     let n = c.deref.result.now in
     let many : length n ≡ length c.args.run.now = ap length c.deref.ensures.value ∙ c.in_ok-by_first.ensures.len in
-    let t2 = c.replace_pair_map.new.context in
-    let l2 = c.replace_pair_map.new.log.steps in
-    let s2 = changes_one g.M.Mix.mixed t0 l0 row c.args.change t1 l1 H B 0 c.in_ok-first.first H 1 c.in_ok-first.second 0 s1 (set_of_entries pair_tuple n) (λ k. ap (λ ps. slice nat_cmp (set_of_entries pair_tuple ps) 0 k) c.deref.ensures.value ∙ c.in_ok-by_first.ensures.slices k)
-    t2 l2 c.in_ok-one.one (length n) c.in_ok-one.ensures.logged c.in_ok-one.ensures.changed (length n) (omega arith) in
     let m = c.deref-2.result.now in
     let more : length m ≡ length c.args.run.now = ap length c.deref-2.ensures.value ∙ c.in_ok-by_second.ensures.len in
-    let t3 = c.replace_pair_map-2.new.context in
-    let l3 = c.replace_pair_map-2.new.log.steps in
-    let G = after (grows c.args.change) H B in
-    let s3 = changes_one g.M.Mix.mixed t0 l0 row c.args.change t2 l2 H B 1 c.in_ok-first.second G 0 c.in_ok-one.one (length n) s2 (set_of_entries pair_tuple m) (λ k. ap (λ ps. slice nat_cmp (set_of_entries pair_tuple ps) 0 k) c.deref-2.ensures.value ∙ c.in_ok-by_second.ensures.slices k)
-    t3 l3 c.in_ok-two.two (length m) c.in_ok-two.ensures.logged c.in_ok-two.ensures.changed (length n + length m) (omega arith) in
+    let s3 = two_done g (goal.at.store_pairs-requires-clause-room g c).In_ok-two in
     omega (arith, c.requires.room d r, s3.logged.counts d r, many, more, c.requires.some)
 
 pub returns-clause-stands : goal.returns-clause-stands
 returns-clause-stands g c =
     let t0 = c.args.context.now in
-    let l0 = c.args.log.now.steps in
     let row = c.args.row in
     let H = set_of t0 2 row in
     let B = set_of_entries trip_rest c.args.run.now in
-    let t1 = c.open_pairs.new.context in
-    let l1 = c.open_pairs.new.log.steps in
-    let s1 = starts g.M.Mix.mixed t0 l0 row c.in_ok-first.first c.in_ok-first.second c.in_ok-first.ensures.first c.in_ok-first.ensures.second c.in_ok-first.ensures.edges t1 l1
-    (subst (λ l. (n : Node) × (node_of t0 2 row ≡ Some n) × IsLogged g.M.Mix.mixed t0 t1 l l1 (at_depth 1 (edges_of n)) (at_depth 2 (one_at row)) 0) c.in_ok-reserve.ensures.same c.open_pairs.ensures.opened) c.open_pairs.ensures.below in
-    let n = c.deref.result.now in
-    let many : length n ≡ length c.args.run.now = ap length c.deref.ensures.value ∙ c.in_ok-by_first.ensures.len in
-    let t2 = c.replace_pair_map.new.context in
-    let l2 = c.replace_pair_map.new.log.steps in
-    let s2 = changes_one g.M.Mix.mixed t0 l0 row c.args.change t1 l1 H B 0 c.in_ok-first.first H 1 c.in_ok-first.second 0 s1 (set_of_entries pair_tuple n) (λ k. ap (λ ps. slice nat_cmp (set_of_entries pair_tuple ps) 0 k) c.deref.ensures.value ∙ c.in_ok-by_first.ensures.slices k)
-    t2 l2 c.in_ok-one.one (length n) c.in_ok-one.ensures.logged c.in_ok-one.ensures.changed (length n) (omega arith) in
-    let m = c.deref-2.result.now in
-    let more : length m ≡ length c.args.run.now = ap length c.deref-2.ensures.value ∙ c.in_ok-by_second.ensures.len in
     let t3 = c.replace_pair_map-2.new.context in
-    let l3 = c.replace_pair_map-2.new.log.steps in
     let G = after (grows c.args.change) H B in
-    let s3 = changes_one g.M.Mix.mixed t0 l0 row c.args.change t2 l2 H B 1 c.in_ok-first.second G 0 c.in_ok-one.one (length n) s2 (set_of_entries pair_tuple m) (λ k. ap (λ ps. slice nat_cmp (set_of_entries pair_tuple ps) 0 k) c.deref-2.ensures.value ∙ c.in_ok-by_second.ensures.slices k)
-    t3 l3 c.in_ok-two.two (length m) c.in_ok-two.ensures.logged c.in_ok-two.ensures.changed (length n + length m) (omega arith) in
+    let s3 = two_done g (goal.at.returns-clause-stands g c).In_ok-two in
     let once = order_once trip_rest c.args.run.now c.requires.run.order in
     let sized : c.changed_size-size.result ≡ set.len G = c.changed_size-size.ensures ∙ size_is c.args.change H B c.requires.run.change c.pair_figures-size.result.0 (length c.args.run.now) c.pair_figures-size.ensures.size once in
     let some : 1 ≤ set.len G = let not = c.if-size-eq0.false in omega arith in
@@ -391,23 +293,14 @@ returns-clause-logged g c =
     let row = c.args.row in
     let H = set_of t0 2 row in
     let B = set_of_entries trip_rest c.args.run.now in
-    let t1 = c.open_pairs.new.context in
-    let l1 = c.open_pairs.new.log.steps in
-    let s1 = starts g.M.Mix.mixed t0 l0 row c.in_ok-first.first c.in_ok-first.second c.in_ok-first.ensures.first c.in_ok-first.ensures.second c.in_ok-first.ensures.edges t1 l1
-    (subst (λ l. (n : Node) × (node_of t0 2 row ≡ Some n) × IsLogged g.M.Mix.mixed t0 t1 l l1 (at_depth 1 (edges_of n)) (at_depth 2 (one_at row)) 0) c.in_ok-reserve.ensures.same c.open_pairs.ensures.opened) c.open_pairs.ensures.below in
     let n = c.deref.result.now in
     let many : length n ≡ length c.args.run.now = ap length c.deref.ensures.value ∙ c.in_ok-by_first.ensures.len in
-    let t2 = c.replace_pair_map.new.context in
-    let l2 = c.replace_pair_map.new.log.steps in
-    let s2 = changes_one g.M.Mix.mixed t0 l0 row c.args.change t1 l1 H B 0 c.in_ok-first.first H 1 c.in_ok-first.second 0 s1 (set_of_entries pair_tuple n) (λ k. ap (λ ps. slice nat_cmp (set_of_entries pair_tuple ps) 0 k) c.deref.ensures.value ∙ c.in_ok-by_first.ensures.slices k)
-    t2 l2 c.in_ok-one.one (length n) c.in_ok-one.ensures.logged c.in_ok-one.ensures.changed (length n) (omega arith) in
     let m = c.deref-2.result.now in
     let more : length m ≡ length c.args.run.now = ap length c.deref-2.ensures.value ∙ c.in_ok-by_second.ensures.len in
     let t3 = c.replace_pair_map-2.new.context in
     let l3 = c.replace_pair_map-2.new.log.steps in
     let G = after (grows c.args.change) H B in
-    let s3 = changes_one g.M.Mix.mixed t0 l0 row c.args.change t2 l2 H B 1 c.in_ok-first.second G 0 c.in_ok-one.one (length n) s2 (set_of_entries pair_tuple m) (λ k. ap (λ ps. slice nat_cmp (set_of_entries pair_tuple ps) 0 k) c.deref-2.ensures.value ∙ c.in_ok-by_second.ensures.slices k)
-    t3 l3 c.in_ok-two.two (length m) c.in_ok-two.ensures.logged c.in_ok-two.ensures.changed (length n + length m) (omega arith) in
+    let s3 = two_done g (goal.at.returns-clause-logged g c).In_ok-two in
     let once = order_once trip_rest c.args.run.now c.requires.run.order in
     let sized : c.changed_size-size.result ≡ set.len G = c.changed_size-size.ensures ∙ size_is c.args.change H B c.requires.run.change c.pair_figures-size.result.0 (length c.args.run.now) c.pair_figures-size.ensures.size once in
     let some : 1 ≤ set.len G = let not = c.if-size-eq0.false in omega arith in
@@ -422,26 +315,9 @@ pub returns-clause-grew : goal.returns-clause-grew
 returns-clause-grew g c =
     let t0 = c.args.context.now in
     let l0 = c.args.log.now.steps in
-    let row = c.args.row in
-    let H = set_of t0 2 row in
-    let B = set_of_entries trip_rest c.args.run.now in
-    let t1 = c.open_pairs.new.context in
-    let l1 = c.open_pairs.new.log.steps in
-    let s1 = starts g.M.Mix.mixed t0 l0 row c.in_ok-first.first c.in_ok-first.second c.in_ok-first.ensures.first c.in_ok-first.ensures.second c.in_ok-first.ensures.edges t1 l1
-    (subst (λ l. (n : Node) × (node_of t0 2 row ≡ Some n) × IsLogged g.M.Mix.mixed t0 t1 l l1 (at_depth 1 (edges_of n)) (at_depth 2 (one_at row)) 0) c.in_ok-reserve.ensures.same c.open_pairs.ensures.opened) c.open_pairs.ensures.below in
-    let n = c.deref.result.now in
-    let many : length n ≡ length c.args.run.now = ap length c.deref.ensures.value ∙ c.in_ok-by_first.ensures.len in
-    let t2 = c.replace_pair_map.new.context in
-    let l2 = c.replace_pair_map.new.log.steps in
-    let s2 = changes_one g.M.Mix.mixed t0 l0 row c.args.change t1 l1 H B 0 c.in_ok-first.first H 1 c.in_ok-first.second 0 s1 (set_of_entries pair_tuple n) (λ k. ap (λ ps. slice nat_cmp (set_of_entries pair_tuple ps) 0 k) c.deref.ensures.value ∙ c.in_ok-by_first.ensures.slices k)
-    t2 l2 c.in_ok-one.one (length n) c.in_ok-one.ensures.logged c.in_ok-one.ensures.changed (length n) (omega arith) in
-    let m = c.deref-2.result.now in
-    let more : length m ≡ length c.args.run.now = ap length c.deref-2.ensures.value ∙ c.in_ok-by_second.ensures.len in
     let t3 = c.replace_pair_map-2.new.context in
     let l3 = c.replace_pair_map-2.new.log.steps in
-    let G = after (grows c.args.change) H B in
-    let s3 = changes_one g.M.Mix.mixed t0 l0 row c.args.change t2 l2 H B 1 c.in_ok-first.second G 0 c.in_ok-one.one (length n) s2 (set_of_entries pair_tuple m) (λ k. ap (λ ps. slice nat_cmp (set_of_entries pair_tuple ps) 0 k) c.deref-2.ensures.value ∙ c.in_ok-by_second.ensures.slices k)
-    t3 l3 c.in_ok-two.two (length m) c.in_ok-two.ensures.logged c.in_ok-two.ensures.changed (length n + length m) (omega arith) in
+    let s3 = two_done g (goal.at.returns-clause-grew g c).In_ok-two in
     err_then (Grows g.M.Mix.mixed t3 c.store_pairs.new.context l3 c.store_pairs.new.log.steps) (Grows g.M.Mix.mixed t0 c.store_pairs.new.context l0 c.store_pairs.new.log.steps) c.store_pairs.result
     (grows_on g.M.Mix.mixed t0 t3 c.store_pairs.new.context l0 l3 c.store_pairs.new.log.steps s3.logged.grew) c.store_pairs.ensures.grew
 

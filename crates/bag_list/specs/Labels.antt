@@ -1,6 +1,6 @@
 -- The labels of a pattern's places, and the positions at which one stands.
 use Rattle.std.specs.Prelude.{ℕ, ◌+◌, ◌*◌, not, cond, nat_eq, List, [], ◌∷◌, slice_index_or, Option, None, Some}
-use Rattle.std.specs.List.{filter}
+use Rattle.std.specs.List.{filter, list_any}
 use Rattle.bag_list.specs.declared.labels.Labels.{Labels}
 
 -- the labels of the places that have one
@@ -25,6 +25,11 @@ mask_with (Some m) l b = cond (nat_eq m l) (2 * b + 1) (2 * b)
 abbrev pub mask_of : ℕ → List ℕ → ℕ
 mask_of l [] = 0
 mask_of l (m ∷ ls) = cond (nat_eq m l) (2 * mask_of l ls + 1) (2 * mask_of l ls)
+
+-- the label that stands at two places, if one does
+abbrev pub doubled : List ℕ → Option ℕ
+doubled [] = None
+doubled (l ∷ ls) = cond (list_any (nat_eq l) ls) (Some l) (doubled ls)
 
 abbrev pub without : ℕ → List ℕ → List ℕ
 without l ls = filter (λ m. not (nat_eq m l)) ls

@@ -11,7 +11,7 @@ use Rattle.bag_list.specs.declared.level.Level.{Level}
 use Rattle.bag_list.specs.declared.track.Part.{Part}
 use Rattle.bag_list.specs.declared.track.Start.{Start}
 use Rattle.bag_list.specs.declared.track.Track.{Track}
-use Rattle.bag_list.specs.Labels.{array_labels, labels_of, mask_of, without}
+use Rattle.bag_list.specs.Labels.{array_labels, doubled, labels_of, mask_of, without}
 use Rattle.bag_list.specs.Levels.{agrees}
 
 -- the labels that the levels don't fix
@@ -108,6 +108,17 @@ module _ {O : Type 0} (tuples : O → IdSet) where
 
   abbrev pub SomeLacksKey : List (Track O) → Type 0
   SomeLacksKey tracks = (i : ℕ) × (i < length tracks) × ((t : Track O) → LacksKeyIn (slice_index_or tracks i t))
+
+  -- the label that stands at two places of the part, if one does, has a key there
+  abbrev pub HasDoubled : Part O → Type 0
+  HasDoubled p = IfSome (doubled (labels_of p.labels)) (λ l. (k : ℕ) × AdmitsAt l p k)
+
+  -- the same of a pattern before a label is fixed, and of every pattern
+  abbrev pub HasDoubledIn : Track O → Type 0
+  HasDoubledIn t = (p : Part O) → HasDoubled (slice_index_or (parts_of t) 0 p)
+
+  abbrev pub AllHaveDoubled : List (Track O) → Type 0
+  AllHaveDoubled tracks = (i : ℕ) (t : Track O) → i < length tracks → HasDoubledIn (slice_index_or tracks i t)
 
   -- the assignment gives each pattern, as it is after so many levels, one of its tuples
   abbrev pub AllHold : List (Track O) → ℕ → List ℕ → Type 0

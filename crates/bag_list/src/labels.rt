@@ -1,6 +1,6 @@
 //! The labels of a pattern's places.
 ghost use Rattle.std.specs.Prelude.{◌≡◌, ◌↔◌, ◌+◌, ◌*◌, ◌<◌, ◌≤◌, [], IfSome, IsTrue};
-ghost use Rattle.bag_list.specs.Labels.{labels_of, mask_of, mask_with, place_without, without};
+ghost use Rattle.bag_list.specs.Labels.{doubled, labels_of, mask_of, mask_with, place_without, without};
 
 use trie_depth::Mask;
 
@@ -26,9 +26,10 @@ impl Labels {
         self.0.is_none() && self.1.is_none() && self.2.is_none()
     }
 
-    /// A label that stands at two places, if there is one.
+    /// The label that stands at two places, if one does.
     pub fn doubled(self) -> Option<u8>
-        ensures { IfSome result (λ l. 1 ≤ mask_of l (labels_of self)) }
+        ensures doubled { result ≡ doubled (labels_of self) }
+        ensures there { IfSome result (λ l. 1 ≤ mask_of l (labels_of self)) }
     {
         if self.0 == self.1 || self.0 == self.2 {
             return self.0;

@@ -1,7 +1,7 @@
 //! The patterns of a search.
 ghost use Rattle.std.specs.Prelude.{◌≡◌, ◌≤◌, ℕ, true, false, IsTrue, IfOk};
 ghost use Rattle.bag_list.specs.Operands.{AreReady, AreRoom, AreSameBut, CanEnter, IsEntered, IsKeptTo, IsOpened};
-ghost use Rattle.bag_list.specs.Tracks.{AllAreStarts, AreTracks, HasEmpty, HaveStarts, SomeLacksKey};
+ghost use Rattle.bag_list.specs.Tracks.{AllAreStarts, AllHaveDoubled, AreTracks, HasEmpty, HaveStarts, SomeLacksKey};
 
 use crate::join::{Join, joins_of};
 use crate::level::Level;
@@ -48,7 +48,8 @@ impl<O: Operand> Operands<O> {
     /// Whether some pattern has a label at two places, and no key stands at both. Nothing is fixed yet.
     pub fn lacks_key<W: Ledger>(&self, reads: &mut Steps<W>) -> bool
         requires { AreReady O.depth_of O.tuples 0 self.now }
-        ensures { IsTrue result → SomeLacksKey O.tuples self.now.tracks.items }
+        ensures lacks { IsTrue result → SomeLacksKey O.tuples self.now.tracks.items }
+        ensures has { result ≡ false → AllHaveDoubled O.tuples self.now.tracks.items }
     {
         lacks_key(&self.tracks, reads)
     }

@@ -4,7 +4,7 @@ ghost use Rattle.bag_list.specs.declared.level.Level.{Level};
 ghost use Rattle.bag_list.specs.declared.track.Part.{Part};
 ghost use Rattle.bag_list.specs.declared.track.Track.{Track};
 ghost use Rattle.bag_list.specs.Labels.{labels_of, mask_of};
-ghost use Rattle.bag_list.specs.Tracks.{AdmitsAt, AdmitsIn, AllAdmitAt, AllAreStarts, AreCounted, AreFixed, height_at, IsCounted, part_at, parts_of, slot_of, AreParts, AreRoomy, AreSameTo, AreTracks, HasEmpty, HaveStarts, IsFixed, IsFixedIn, IsPart, IsPartIn, IsSameTo, LacksKeyIn, SomeLacksKey};
+ghost use Rattle.bag_list.specs.Tracks.{AdmitsAt, AdmitsIn, AllAdmitAt, AllAreStarts, AllHaveDoubled, AreCounted, AreFixed, height_at, IsCounted, part_at, parts_of, slot_of, AreParts, AreRoomy, AreSameTo, AreTracks, HasDoubledIn, HasEmpty, HaveStarts, IsFixed, IsFixedIn, IsPart, IsPartIn, IsSameTo, LacksKeyIn, SomeLacksKey};
 
 use crate::labels::Labels;
 use std::alloc::Global;
@@ -107,7 +107,8 @@ impl<O: Operand> Track<O> {
     fn lacks_key<W: Ledger>(&self, reads: &mut Steps<W>) -> bool
         requires room { 0 < length (parts_of self.now) }
         requires part { IsPartIn O.depth_of O.tuples 0 self.now }
-        ensures { IsTrue result → LacksKeyIn O.tuples self.now }
+        ensures lacks { IsTrue result → LacksKeyIn O.tuples self.now }
+        ensures has { result ≡ false → HasDoubledIn O.tuples self.now }
     {
         let part = self.at(0);
         match part.labels.doubled() {
@@ -206,7 +207,8 @@ pub fn enter_all<O: Operand, W: Ledger>(
 pub fn lacks_key<O: Operand, W: Ledger>(tracks: &[Track<O>], reads: &mut Steps<W>) -> bool
     requires roomy { AreRoomy 0 tracks.now }
     requires parts { AreParts O.depth_of O.tuples 0 tracks.now }
-    ensures { IsTrue result → SomeLacksKey O.tuples tracks.now }
+    ensures lacks { IsTrue result → SomeLacksKey O.tuples tracks.now }
+    ensures has { result ≡ false → AllHaveDoubled O.tuples tracks.now }
 {
     for i in 0..tracks.len() {
         let track = &tracks[i];

@@ -12,7 +12,7 @@ returns-then-lacks_key-clause-coming g c =
     let T = id_solutions (length s.levels.items) (rests g.O.Operand.tuples s.operands.tracks.items) in
     let none : T ≡ [] =
     lacking-none g.O.Operand.depth_of g.O.Operand.tuples g.met.O.Operand.deep (length s.levels.items) (s.depth + n_fresh s.fresh) s.levels.items s.operands.tracks.items c.requires.kept.kept.patterns
-    (let one = ap n_fresh c.requires.fresh in omega (arith, one)) (c.lacks_key.ensures c.if-lacks_key.true) in
+    (let one = ap n_fresh c.requires.fresh in omega (arith, one)) (c.lacks_key.ensures.lacks c.if-lacks_key.true) in
     let new : to_come T (take s.depth s.levels.items) false ≡ [] = (λ j. to_come (none j) (take (c.if-self-eq0.true j) s.levels.items) false) in
     let old : to_come T (take s.depth s.levels.items) s.fresh ≡ [] = (λ j. to_come (none j) (take (c.if-self-eq0.true j) s.levels.items) (c.requires.fresh j)) in
     new ∙ sym old

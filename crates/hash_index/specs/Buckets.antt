@@ -1,6 +1,6 @@
 -- What contracts see of an index: the hash under which each number is listed.
 use Rattle.std.specs.Prelude.{◌≡◌, ◌≢◌, ◌==◌, ◌&&◌, ℕ, ◌+◌, ◌%◌, ◌^◌, ◌<◌, Bool, List, [], ◌∷◌, ◌++◌, length, Option, None, Some, if◌then◌else◌, count_by, nat_lt, slice_index_or}
-use Rattle.std.specs.List.{filter}
+use Rattle.std.specs.List.{Contains, filter}
 use Rattle.std.specs.Ordering.{nat_cmp}
 use Rattle.std.specs.FinMap as map
 use Rattle.std.specs.FinMap.{FinMap}
@@ -47,6 +47,14 @@ abbrev pub IsListedOnce : FinMap nat_cmp ℕ → ℕ → List Entries → Type 0
 IsListedOnce hashes bits buckets =
     (bucket hash number : ℕ) → times hash number (entries_at buckets bucket) ≡ (if bucket_of bits (length buckets) hash == bucket then one_at (map.get hashes number) hash else 0)
 
+-- what is listed once in the old buckets is listed once in the new ones
+abbrev pub KeepListed : ℕ → List Entries → ℕ → List Entries → Type 0
+KeepListed old_bits old new_bits new = (hashes : FinMap nat_cmp ℕ) → IsListedOnce hashes old_bits old → IsListedOnce hashes new_bits new
+
+-- each number under the hash stands with it among the entries
+abbrev pub HasAllUnder : FinMap nat_cmp ℕ → ℕ → Entries → Type 0
+HasAllUnder hashes hash entries = (number : ℕ) → map.get hashes number ≡ Some hash → Contains entries (record { hash = hash; number = number })
+
 pub record IsSound (buckets : List Entries) (bits : ℕ) : Type 0 where
   pub once : IsListedOnce (hashes_of buckets) bits buckets
   pub small : bits < 32
@@ -65,6 +73,10 @@ pub record ChangesOne (Changes : Entries → Entries → Type 0) (bucket : ℕ) 
   pub changed : Changes (entries_at old bucket) (entries_at new bucket)
   pub others : (other : ℕ) → other ≢ bucket → entries_at new other ≡ entries_at old other
   pub count : length new ≡ length old
+
+-- the same, where it is the bucket of a hash
+abbrev pub ChangesOneOf : (Entries → Entries → Type 0) → ℕ → ℕ → List Entries → List Entries → Type 0
+ChangesOneOf Changes bits hash old new = ChangesOne Changes (bucket_of bits (length old) hash) old new
 
 -- a bucket more, which gets a part of one that was there
 pub record IsParted (bits : ℕ) (old new : List Entries) : Type 0 where

@@ -2,9 +2,7 @@
 ghost use Rattle.std.specs.Prelude.{◌≡◌, ℕ, ◌+◌, ◌<◌, None, Some, OnOk, OnErr, length, slice_set, vec_len, vec_capacity};
 ghost use Rattle.std.specs.List.{Contains};
 ghost use Rattle.std.specs.FinMap as map;
-ghost use Rattle.std.specs.FinMap.{FinMap};
-ghost use Rattle.std.specs.Ordering.{nat_cmp};
-ghost use Rattle.hash_index.specs.Buckets.{entries_at, times, bucket_of, ChangesOne, Adds, TakesOne, IsListedOnce, IsParted};
+ghost use Rattle.hash_index.specs.Buckets.{entries_at, times, bucket_of, Adds, ChangesOneOf, HasAllUnder, IsParted, KeepListed, TakesOne};
 
 use crate::bucket::Bucket;
 use crate::entry::Entry;
@@ -57,7 +55,7 @@ impl HashIndex {
     /// Some entries, those under the hash among them.
     pub fn near(&self, hash: u32) -> &[Entry]
         ensures listed { (e : Entry) → Contains result.now e → map.get self.now e.number ≡ Some e.hash }
-        ensures all { (number : ℕ) → map.get self.now number ≡ Some hash → Contains result.now (record { hash = hash; number = number }) }
+        ensures all { HasAllUnder self.now hash result.now }
     {
         let place = place_of(self.bits, self.buckets.len(), hash);
         entries_in(self.buckets.as_slice(), place)
@@ -100,7 +98,7 @@ fn entries_in<'a>(buckets: &'a [Bucket], place: usize) -> &'a [Entry]
 
 fn put(buckets: &mut Vec<Bucket>, bits: u32, entry: Entry) -> Result<(), Memory>
     requires { bits < 32 }
-    ensures added { OnOk result (ChangesOne (Adds entry) (bucket_of bits (length buckets.old.items) entry.hash) buckets.old.items buckets.new.items) }
+    ensures added { OnOk result (ChangesOneOf (Adds entry) bits entry.hash buckets.old.items buckets.new.items) }
     ensures kept { OnErr result (buckets.new.items ≡ buckets.old.items) }
 {
     let place = place_of(bits, buckets.len(), entry.hash);
@@ -114,7 +112,7 @@ fn put(buckets: &mut Vec<Bucket>, bits: u32, entry: Entry) -> Result<(), Memory>
 fn take_out(buckets: &mut Vec<Bucket>, bits: u32, hash: u32, number: usize)
     requires bits { bits < 32 }
     requires there { 0 < times hash number (entries_at buckets.old.items (bucket_of bits (length buckets.old.items) hash)) }
-    ensures { ChangesOne (TakesOne hash number) (bucket_of bits (length buckets.old.items) hash) buckets.old.items buckets.new.items }
+    ensures { ChangesOneOf (TakesOne hash number) bits hash buckets.old.items buckets.new.items }
 {
     let place = place_of(bits, buckets.len(), hash);
     match buckets.get_mut(place) {
@@ -127,7 +125,7 @@ fn take_out(buckets: &mut Vec<Bucket>, bits: u32, hash: u32, number: usize)
 fn make_room(buckets: &mut Vec<Bucket>, bits: &mut u32, alloc: Global, entries: usize)
     requires { bits.old < 32 }
     ensures bits { bits.new < 32 }
-    ensures same { (hashes : FinMap nat_cmp ℕ) → IsListedOnce hashes bits.old buckets.old.items → IsListedOnce hashes bits.new buckets.new.items }
+    ensures same { KeepListed bits.old buckets.old.items bits.new buckets.new.items }
 {
     if entries / FULL >= buckets.len() {
         let _ = part_one(buckets, bits, alloc);
@@ -138,7 +136,7 @@ fn make_room(buckets: &mut Vec<Bucket>, bits: &mut u32, alloc: Global, entries: 
 fn part_one(buckets: &mut Vec<Bucket>, bits: &mut u32, alloc: Global) -> Result<(), Memory>
     requires { bits.old < 32 }
     ensures bits { bits.new < 32 }
-    ensures same { (hashes : FinMap nat_cmp ℕ) → IsListedOnce hashes bits.old buckets.old.items → IsListedOnce hashes bits.new buckets.new.items }
+    ensures same { KeepListed bits.old buckets.old.items bits.new buckets.new.items }
 {
     let wide = next_bits(*bits, buckets.len());
     part(buckets, wide, alloc)?;

@@ -11,6 +11,7 @@ pub mod InHand
 pub mod Premises
 pub mod RunLaws
 pub mod Sums
+pub mod Named
 pub mod Extra
 pub mod PairLaws
 pub mod PartLaws

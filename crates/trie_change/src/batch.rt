@@ -1,9 +1,9 @@
 //! The entries of a batch in the order of a position's keys.
-ghost use Rattle.std.specs.Prelude.{◌≡◌, ℕ, ◌<◌, IfOk, length};
-ghost use Rattle.std.specs.Ordering.{nat_cmp};
-ghost use Rattle.hypertrie_model.specs.Slices.{slice};
+ghost use Rattle.std.specs.Prelude.{◌≡◌, ◌<◌, IfOk, length};
 ghost use Rattle.trie_depth.specs.Tuples.{pair_tuple, trip_tuple};
 ghost use Rattle.trie_change.specs.Batches.{set_of_entries, AreInOrder, IsOnce, trip_rest, pair_in_front, trip_in_front};
+ghost use Rattle.trie_change.specs.After.{triples_of, pairs_of};
+ghost use Rattle.trie_change.specs.Named.{BeginsWith};
 
 use crate::levels::by_key;
 use std::alloc::Global;
@@ -35,7 +35,7 @@ pub fn triples_by_key(alloc: Global, batch: &[Trip], position: usize) -> Result<
     requires position { position < 3 }
     requires once { IsOnce trip_tuple batch.now }
     ensures sorted { IfOk result (λ v. AreInOrder trip_tuple v.items) }
-    ensures slices { IfOk result (λ v. (k : ℕ) → slice nat_cmp (set_of_entries trip_tuple v.items) 0 k ≡ slice nat_cmp (set_of_entries trip_tuple batch.now) position k) }
+    ensures slices { IfOk result (λ v. BeginsWith (triples_of v.items) (triples_of batch.now) position) }
     ensures len { IfOk result (λ v. length v.items ≡ length batch.now) }
 {
     by_key!(alloc, batch, position, triples, triple, triple_in_front)
@@ -46,7 +46,7 @@ pub fn pairs_by_key(alloc: Global, run: &[Trip], position: usize) -> Result<Vec<
     requires position { position < 2 }
     requires once { IsOnce trip_rest run.now }
     ensures sorted { IfOk result (λ v. AreInOrder pair_tuple v.items) }
-    ensures slices { IfOk result (λ v. (k : ℕ) → slice nat_cmp (set_of_entries pair_tuple v.items) 0 k ≡ slice nat_cmp (set_of_entries trip_rest run.now) position k) }
+    ensures slices { IfOk result (λ v. BeginsWith (pairs_of v.items) (set_of_entries trip_rest run.now) position) }
     ensures len { IfOk result (λ v. length v.items ≡ length run.now) }
 {
     by_key!(alloc, run, position, pairs, triple, rest_in_front)

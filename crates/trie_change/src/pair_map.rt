@@ -1,5 +1,5 @@
 //! A map of a node of depth two changed.
-ghost use Rattle.std.specs.Prelude.{◌≡◌, ◌+◌, ◌≤◌, ◌^◌, [], IfOk, OnOk, OnErr, length};
+ghost use Rattle.std.specs.Prelude.{◌≡◌, ◌+◌, ◌≤◌, [], IfOk, OnOk, OnErr, length};
 ghost use Rattle.std.specs.FinMap as map;
 ghost use Rattle.edge_map.specs.Entries.{KeysRise};
 ghost use Rattle.edge_map.specs.Edges.{changed};
@@ -8,6 +8,7 @@ ghost use Rattle.trie_change.specs.After.{pairs_of, map_hold, changes_hold, keys
 ghost use Rattle.trie_change.specs.InHand.{IsInHand};
 ghost use Rattle.trie_change.specs.Premises.{MayChangeMap};
 ghost use Rattle.trie_change.specs.Rooms.{LeavesRoom, AreChanged};
+ghost use Rattle.trie_change.specs.Named.{ArePairsChanged};
 
 use crate::change::Change;
 use crate::hand::{Changes, release_changes};
@@ -34,7 +35,7 @@ fn pair_changes<M: Mix, W: Ledger>(
     requires entries { MayChangeMap change context.old 1 pair_tuple old.now pairs.now }
     requires room { LeavesRoom context.old (length pairs.now) }
     ensures rise { KeysRise changes.new.items }
-    ensures changed { OnOk result (AreChanged change context.old context.new 1 old.now (pairs_of pairs.now) (changed old.now changes.new.items)) }
+    ensures changed { OnOk result (ArePairsChanged change context.old context.new old.now pairs.now changes.new.items) }
     ensures held { IsInHand M.mixed context.old context.new (changes_hold 1 changes.new.items) (length pairs.now) }
     ensures ticks { interns.new ≤ interns.old + length pairs.now }
 {

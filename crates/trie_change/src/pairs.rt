@@ -1,21 +1,16 @@
 //! A set of pairs changed.
-ghost use Rattle.std.specs.Prelude.{◌≡◌, ℕ, ◌+◌, ◌*◌, ◌<◌, ◌≤◌, ◌^◌, IfSome, IfOk, OnErr, length};
-ghost use Rattle.std.specs.Ordering.{nat_cmp};
+ghost use Rattle.std.specs.Prelude.{◌≡◌, ◌+◌, ◌*◌, ◌<◌, ◌≤◌, ◌^◌, IfSome, IfOk, OnErr, length};
 ghost use Rattle.std.specs.FinSet as set;
-ghost use Rattle.hypertrie_model.specs.IdSets.{IdSet};
-ghost use Rattle.hypertrie_model.specs.Sets.{single};
 ghost use Rattle.trie_depth.specs.declared.id.Pair.{Pair};
-ghost use Rattle.trie_depth.specs.Tuples.{pair_tuple};
 ghost use Rattle.trie_node.specs.declared.node.Node.{Node};
 ghost use Rattle.trie_node.specs.Sets.{set_hash};
 ghost use Rattle.trie_context.specs.FitEdges.{set_at, StandsAt};
-ghost use Rattle.trie_context.specs.declared.tables.Tables.{Tables};
 ghost use Rattle.trie_change.specs.After.{pairs_after, edge_hold, map_hold, rest_room, run_room};
 ghost use Rattle.trie_change.specs.InHand.{IsInHand};
 ghost use Rattle.trie_change.specs.Batches.{trip_rest};
-ghost use Rattle.trie_change.specs.Nodes.{ArePairParts, IsPairNodeOf};
 ghost use Rattle.trie_change.specs.Premises.{MayChangeEdge};
 ghost use Rattle.trie_change.specs.Rooms.{LeavesRoom, FitsSome, AreSlicesAt};
+ghost use Rattle.trie_change.specs.Named.{MakesPairs, IsLonePair, StandsForPair};
 
 use crate::batch::pairs_by_key;
 use crate::change::{Change, changed_size};
@@ -103,7 +98,7 @@ pub fn pair_node<M: Mix>(
     first: EdgeMap,
     second: EdgeMap,
 ) -> Node
-    ensures { (low : ℕ → IdSet) (H : IdSet) → 1 ≤ set.len H → ArePairParts M.mixed low H size hash first second → IsPairNodeOf M.mixed low H first second result }
+    ensures { MakesPairs M.mixed size hash first second result }
 {
     let least = first.seek(Id(0));
     let full = Node::Full {
@@ -123,7 +118,7 @@ pub fn pair_node<M: Mix>(
 
 /// The node of one pair that is put in where there was none.
 fn lone_pair(change: Change, old: Option<Edge>, run: &[Trip]) -> Option<Node>
-    ensures { IfSome result (λ node. (p : Pair) × (node ≡ Node.Single p) × ((t : Tables) → single nat_cmp (pair_tuple p) ≡ pairs_after change t old run.now)) }
+    ensures { IfSome result (IsLonePair change old run.now) }
 {
     match (change, old) {
         (Change::Grow, None) if run.len() == 1 => Some(Node::Single(Pair(run[0].1, run[0].2))),
@@ -139,7 +134,7 @@ fn put_pair<M: Mix, W: Ledger>(
 ) -> Result<Option<Edge>, Memory>
     requires lone { (p : Pair) × (node ≡ Node.Single p) }
     requires room { LeavesRoom context.old 1 }
-    ensures stands { IfOk result (λ e. (p : Pair) → node ≡ Node.Single p → StandsAt context.new 2 (single nat_cmp (pair_tuple p)) e) }
+    ensures stands { IfOk result (StandsForPair context.new node) }
     ensures held { IfOk result (λ e. IsInHand M.mixed context.old context.new (edge_hold 2 e) 1) }
     ensures kept { OnErr result (context.new ≡ context.old) }
     ensures ticks { interns.new ≡ interns.old + 1 }

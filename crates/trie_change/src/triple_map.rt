@@ -1,5 +1,5 @@
 //! A map of a node of depth three changed.
-ghost use Rattle.std.specs.Prelude.{◌≡◌, ◌+◌, ◌*◌, ◌≤◌, ◌^◌, [], IfOk, OnOk, OnErr, length};
+ghost use Rattle.std.specs.Prelude.{◌≡◌, ◌+◌, ◌*◌, ◌≤◌, [], IfOk, OnOk, OnErr, length};
 ghost use Rattle.std.specs.FinMap as map;
 ghost use Rattle.edge_map.specs.Entries.{KeysRise};
 ghost use Rattle.edge_map.specs.Edges.{changed};
@@ -8,6 +8,7 @@ ghost use Rattle.trie_change.specs.After.{triples_of, map_hold, changes_hold, ru
 ghost use Rattle.trie_change.specs.InHand.{IsInHand};
 ghost use Rattle.trie_change.specs.Premises.{MayChangeMap};
 ghost use Rattle.trie_change.specs.Rooms.{LeavesRoom, AreChanged, AreSmallAfter};
+ghost use Rattle.trie_change.specs.Named.{AreTriplesChanged, map_retains};
 
 use crate::change::Change;
 use crate::hand::{Changes, release_changes};
@@ -36,7 +37,7 @@ fn triple_changes<M: Mix, W: Ledger, V: Ledger>(
     requires size { AreSmallAfter change context.old 2 old.now (triples_of triples.now) }
     requires room { LeavesRoom context.old (run_room triples.now) }
     ensures rise { KeysRise changes.new.items }
-    ensures changed { OnOk result (AreChanged change context.old context.new 2 old.now (triples_of triples.now) (changed old.now changes.new.items)) }
+    ensures changed { OnOk result (AreTriplesChanged change context.old context.new old.now triples.now changes.new.items) }
     ensures held { IsInHand M.mixed context.old context.new (changes_hold 2 changes.new.items) (run_room triples.now) }
     ensures ticks { interns.new ≤ interns.old + 3 * length triples.now }
     ensures retained { retains.new ≤ retains.old + runs_copied context.old old.now triples.now }
@@ -65,7 +66,7 @@ pub fn change_triple_map<M: Mix, W: Ledger, V: Ledger>(
     ensures held { IfOk result (λ m. IsInHand M.mixed context.old context.new (map_hold 2 m) (map_room triples.items)) }
     ensures kept { OnErr result (context.new ≡ context.old) }
     ensures ticks { interns.new ≤ interns.old + 3 * length triples.items }
-    ensures retained { IfOk result (λ m. retains.new ≤ retains.old + (runs_copied context.old old.now triples.items + map.len m)) }
+    ensures retained { IfOk result (λ m. retains.new ≤ retains.old + map_retains context.old old.now triples.items m) }
     ensures few { OnErr result (retains.new ≤ retains.old + runs_copied context.old old.now triples.items) }
 {
     context.is_kept();

@@ -1,5 +1,5 @@
 //! A graph changed.
-ghost use Rattle.std.specs.Prelude.{◌≡◌, ℕ, ◌+◌, ◌*◌, ◌<◌, ◌≤◌, ◌^◌, IfOk, OnErr, length};
+ghost use Rattle.std.specs.Prelude.{◌≡◌, ℕ, ◌+◌, ◌*◌, ◌<◌, ◌≤◌, IfOk, OnErr, length};
 ghost use Rattle.std.specs.Ordering.{nat_cmp};
 ghost use Rattle.std.specs.FinSet as set;
 ghost use Rattle.hypertrie_model.specs.Sets.{single};
@@ -12,6 +12,7 @@ ghost use Rattle.trie_change.specs.After.{row_after, map_hold, map_room, maps_ro
 ghost use Rattle.trie_change.specs.InHand.{IsInHand};
 ghost use Rattle.trie_change.specs.Premises.{MayChangeRow};
 ghost use Rattle.trie_change.specs.Rooms.{LeavesRoom, AllFit, AreSlicesAt, row_set_at, IsRowThere, first_set};
+ghost use Rattle.trie_change.specs.Named.{in_three};
 
 use crate::batch::triples_by_key;
 use crate::change::{Change, changed_size};
@@ -100,7 +101,7 @@ fn change_positions<M: Mix, W: Ledger, V: Ledger>(
     ensures first { IfOk result (λ m. AreSlicesAt context.new 2 (row_after change context.old old batch.now) 0 m.0) }
     ensures second { IfOk result (λ m. AreSlicesAt context.new 2 (row_after change context.old old batch.now) 1 m.1) }
     ensures third { IfOk result (λ m. AreSlicesAt context.new 2 (row_after change context.old old batch.now) 2 m.2) }
-    ensures held { IfOk result (λ m. IsInHand M.mixed context.old context.new (three_maps m.0 m.1 m.2) (maps_room batch.now)) }
+    ensures held { IfOk result (λ m. IsInHand M.mixed context.old context.new (in_three m) (maps_room batch.now)) }
     ensures kept { OnErr result (context.new ≡ context.old) }
     ensures ticks { interns.new ≤ interns.old + 9 * length batch.now }
     ensures retained { retains.new ≤ retains.old + 9 * (set.len (row_set_at context.old old) + length batch.now) }

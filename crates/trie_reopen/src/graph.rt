@@ -1,19 +1,15 @@
 //! The row of a graph that nothing else holds, opened, changed and stored again.
-ghost use Rattle.std.specs.Prelude.{◌≡◌, ◌+◌, ◌*◌, ◌≤◌, ◌<◌, ◌^◌, ℕ, Some, IsSome, IfOk, OnErr, length};
+ghost use Rattle.std.specs.Prelude.{◌≡◌, ◌+◌, ◌*◌, ◌≤◌, ◌<◌, Some, IsSome, IfOk, OnErr, length};
 ghost use Rattle.std.specs.FinSet as set;
 ghost use Rattle.change_log.specs.Log.{Grows};
-ghost use Rattle.change_log.specs.Logged.{IsLogged};
-ghost use Rattle.trie_depth.specs.Tuples.{trip_tuple};
 ghost use Rattle.trie_node.specs.declared.node.Node.{Node};
-ghost use Rattle.trie_node.specs.Sets.{edges_in, edges_of};
-ghost use Rattle.trie_context.specs.Holds.{count_of, holds_of, one_at, at_depth};
-ghost use Rattle.trie_context.specs.Roots.{root_set, root_hold};
-ghost use Rattle.trie_context.specs.Rows.{row_of, node_of, set_of};
-ghost use Rattle.trie_context.specs.Shape.{OnlyHeld};
+ghost use Rattle.trie_context.specs.Holds.{count_of, holds_of};
+ghost use Rattle.trie_context.specs.Roots.{root_set};
+ghost use Rattle.trie_context.specs.Rows.{row_of, set_of};
 ghost use Rattle.trie_change.specs.After.{row_after, graph_room};
-ghost use Rattle.trie_change.specs.Extra.{extra};
 ghost use Rattle.trie_change.specs.Premises.{MayChangeRow};
 ghost use Rattle.trie_change.specs.Rooms.{LeavesRoom, AreSlicesAt};
+ghost use Rattle.trie_reopen.specs.Named.{HaveTripleEdges, ReplacesRoot, GraphRetains};
 
 use crate::triple_map::replace_triple_map;
 use crate::triples::{open_triples, store_triples};
@@ -38,7 +34,7 @@ fn triple_maps<M: Mix>(
     ensures first { IfOk result (λ m. AreSlicesAt context.now 2 (set_of context.now 3 row) 0 m.0) }
     ensures second { IfOk result (λ m. AreSlicesAt context.now 2 (set_of context.now 3 row) 1 m.1) }
     ensures third { IfOk result (λ m. AreSlicesAt context.now 2 (set_of context.now 3 row) 2 m.2) }
-    ensures edges { IfOk result (λ m. (n : Node) → node_of context.now 3 row ≡ Some n → (r : ℕ) → edges_in m.0 r + (edges_in m.1 r + edges_in m.2 r) ≡ edges_of n r) }
+    ensures edges { IfOk result (HaveTripleEdges context.now row) }
 {
     context.is_kept();
     let first = triple_edges(alloc, context, Some(row), 0)?;
@@ -65,10 +61,10 @@ pub fn reopen_triples<M: Mix, W: Ledger, V: Ledger>(
     requires left { 2 ≤ set.len (row_after change context.old (Some row) batch.now) }
     requires room { LeavesRoom context.old (graph_room batch.now) }
     ensures set { IfOk result (λ root. root_set context.new root ≡ row_after change context.old (Some row) batch.now) }
-    ensures logged { IfOk result (λ root. IsLogged M.mixed context.old context.new log.old.steps log.new.steps (root_hold root) (at_depth 3 (one_at row)) (graph_room batch.now)) }
+    ensures logged { IfOk result (ReplacesRoot M.mixed context.old context.new log.old log.new row batch.now) }
     ensures grew { OnErr result (Grows M.mixed context.old context.new log.old.steps log.new.steps) }
     ensures ticks { interns.new ≤ interns.old + (9 * length batch.now + 1) }
-    ensures retained { OnlyHeld context.old row → retains.new ≤ retains.old + (6 * length batch.now + extra (set_of context.old 3 row) (row_after change context.old (Some row) batch.now)) }
+    ensures retained { GraphRetains change context.old row batch.now retains.old retains.new }
 {
     context.is_kept();
     let (size, hash) = triple_figures(context, Some(row));

@@ -1,7 +1,6 @@
 //! A key set changed, with the old one kept in the log.
 ghost use Rattle.std.specs.Prelude.{◌≡◌, ◌+◌, ◌≤◌, ℕ, IfOk, OnOk, OnErr, IsTrue};
-ghost use Rattle.change_log.specs.Log.{edge_hold, Grows};
-ghost use Rattle.change_log.specs.Logged.{IsLogged};
+ghost use Rattle.change_log.specs.Log.{Grows};
 ghost use Rattle.trie_context.specs.FitEdges.{StandsAt, option_leads};
 ghost use Rattle.trie_change.specs.After.{keys_after};
 ghost use Rattle.trie_change.specs.Batches.{pair_rest};
@@ -9,6 +8,7 @@ ghost use Rattle.trie_change.specs.Premises.{MayChangeEdge};
 ghost use Rattle.trie_change.specs.Rooms.{LeavesRoom};
 ghost use Rattle.trie_context.specs.Holds.{nothing};
 ghost use Rattle.trie_reopen.specs.Shared.{HoldsRiseBy};
+ghost use Rattle.trie_reopen.specs.Named.{ReplacesEdge};
 
 use change_log::{Log, RowStep, Step};
 use edge_map::Edge;
@@ -42,7 +42,7 @@ pub fn replace_keys<M: Mix, W: Ledger>(
     requires run { MayChangeEdge change context.old 1 pair_rest old run.now }
     requires room { LeavesRoom context.old 1 }
     ensures stands { IfOk result (StandsAt context.new 1 (keys_after change context.old old run.now)) }
-    ensures logged { IfOk result (λ e. IsLogged M.mixed context.old context.new log.old.steps log.new.steps (edge_hold 1 e) (edge_hold 1 old) 1) }
+    ensures logged { IfOk result (ReplacesEdge M.mixed context.old context.new log.old log.new 1 old 1) }
     ensures grew { OnErr result (Grows M.mixed context.old context.new log.old.steps log.new.steps) }
     ensures ticks { interns.new ≤ interns.old + 1 }
     ensures risen { OnOk result (HoldsRiseBy context.old context.new nothing) }

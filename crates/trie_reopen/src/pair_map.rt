@@ -1,16 +1,17 @@
 //! A map of edges to key sets changed, with the old edges kept in the log.
 ghost use Rattle.std.specs.Prelude.{◌≡◌, ◌+◌, ◌≤◌, ℕ, [], IfOk, OnOk, OnErr, length};
 ghost use Rattle.change_log.specs.Log.{Grows};
-ghost use Rattle.change_log.specs.Logged.{IsLogged};
 ghost use Rattle.edge_map.specs.Edges.{changed};
 ghost use Rattle.edge_map.specs.Entries.{KeysRise};
 ghost use Rattle.trie_depth.specs.Tuples.{pair_tuple};
 ghost use Rattle.trie_node.specs.Sets.{edges_in};
 ghost use Rattle.trie_context.specs.Holds.{holds_of, nothing};
-ghost use Rattle.trie_change.specs.After.{map_hold, pairs_of};
+ghost use Rattle.trie_change.specs.After.{pairs_of};
 ghost use Rattle.trie_change.specs.Premises.{MayChangeMap};
 ghost use Rattle.trie_change.specs.Rooms.{LeavesRoom, AreChanged};
 ghost use Rattle.trie_reopen.specs.Shared.{HoldsRiseBy};
+ghost use Rattle.trie_change.specs.Named.{ArePairsChanged};
+ghost use Rattle.trie_reopen.specs.Named.{LogPairs, ReplacesPairs};
 
 use crate::keys::replace_keys;
 use change_log::Log;
@@ -38,8 +39,8 @@ pub fn replace_each<M: Mix, W: Ledger>(
     requires held { (r : ℕ) → edges_in old.now r ≤ holds_of context.old 1 r }
     requires room { LeavesRoom context.old (length pairs.now) }
     ensures rise { OnOk result (KeysRise changes.new.items) }
-    ensures changed { OnOk result (AreChanged change context.old context.new 1 old.now (pairs_of pairs.now) (changed old.now changes.new.items)) }
-    ensures logged { OnOk result (IsLogged M.mixed context.old context.new log.old.steps log.new.steps (map_hold 1 (changed old.now changes.new.items)) (map_hold 1 old.now) (length pairs.now)) }
+    ensures changed { OnOk result (ArePairsChanged change context.old context.new old.now pairs.now changes.new.items) }
+    ensures logged { OnOk result (LogPairs M.mixed context.old context.new log.old log.new old.now pairs.now changes.new.items) }
     ensures grew { OnErr result (Grows M.mixed context.old context.new log.old.steps log.new.steps) }
     ensures ticks { interns.new ≤ interns.old + length pairs.now }
     ensures risen { OnOk result (HoldsRiseBy context.old context.new nothing) }
@@ -72,7 +73,7 @@ pub fn replace_pair_map<M: Mix, W: Ledger>(
     requires held { (r : ℕ) → edges_in old.now r ≤ holds_of context.old 1 r }
     requires room { LeavesRoom context.old (length pairs.now) }
     ensures changed { IfOk result (AreChanged change context.old context.new 1 old.now (pairs_of pairs.now)) }
-    ensures logged { IfOk result (λ m. IsLogged M.mixed context.old context.new log.old.steps log.new.steps (map_hold 1 m) (map_hold 1 old.now) (length pairs.now)) }
+    ensures logged { IfOk result (ReplacesPairs M.mixed context.old context.new log.old log.new old.now pairs.now) }
     ensures grew { OnErr result (Grows M.mixed context.old context.new log.old.steps log.new.steps) }
     ensures ticks { interns.new ≤ interns.old + length pairs.now }
     ensures risen { OnOk result (HoldsRiseBy context.old context.new nothing) }

@@ -1,21 +1,20 @@
 //! The row of a set of pairs: taken out with its edges in hand, stored again as another, or replaced by a copy.
-ghost use Rattle.std.specs.Prelude.{◌≡◌, ◌+◌, ◌*◌, ◌≤◌, ◌<◌, ◌^◌, ℕ, Some, IsSome, IfOk, OnErr, length};
+ghost use Rattle.std.specs.Prelude.{◌≡◌, ◌+◌, ◌*◌, ◌≤◌, ◌<◌, ◌^◌, ℕ, Some, IfOk, OnErr, length};
 ghost use Rattle.std.specs.FinSet as set;
 ghost use Rattle.change_log.specs.Log.{edge_hold, Grows};
-ghost use Rattle.change_log.specs.Logged.{IsLogged};
 ghost use Rattle.edge_map.specs.declared.edge.Edge.{Edge};
 ghost use Rattle.trie_node.specs.declared.node.Node.{Node};
-ghost use Rattle.trie_node.specs.Sets.{edges_in, edges_of};
-ghost use Rattle.trie_context.specs.FitEdges.{set_at, StandsAt, option_leads};
-ghost use Rattle.trie_context.specs.Holds.{count_of, holds_of, one_at, at_depth, nothing};
+ghost use Rattle.trie_node.specs.Sets.{edges_of};
+ghost use Rattle.trie_context.specs.FitEdges.{set_at, StandsAt};
+ghost use Rattle.trie_context.specs.Holds.{count_of, holds_of, nothing};
 ghost use Rattle.trie_context.specs.Kept.{IsNode};
-ghost use Rattle.trie_context.specs.Opened.{IsOpened};
-ghost use Rattle.trie_context.specs.Rows.{row_of, node_of, set_of, node_set};
+ghost use Rattle.trie_context.specs.Rows.{row_of, set_of, node_set};
 ghost use Rattle.trie_change.specs.After.{pairs_after, run_room};
 ghost use Rattle.trie_change.specs.Batches.{trip_rest};
 ghost use Rattle.trie_change.specs.Premises.{MayChangeEdge};
 ghost use Rattle.trie_change.specs.Rooms.{LeavesRoom, FitsSome, AreSlicesAt};
 ghost use Rattle.trie_reopen.specs.Shared.{HoldsRiseBy};
+ghost use Rattle.trie_reopen.specs.Named.{HavePairEdges, OpensPairs, ReplacesEdge, StoresPairs};
 
 use change_log::{Log, RowStep, Step};
 use edge_map::{Edge, EdgeMap};
@@ -35,7 +34,7 @@ pub fn pair_maps<M: Mix>(
     requires fits { FitsSome context.now 2 (Some (Edge.Node row)) }
     ensures first { IfOk result (λ m. AreSlicesAt context.now 1 (set_of context.now 2 row) 0 m.0) }
     ensures second { IfOk result (λ m. AreSlicesAt context.now 1 (set_of context.now 2 row) 1 m.1) }
-    ensures edges { IfOk result (λ m. (n : Node) → node_of context.now 2 row ≡ Some n → (r : ℕ) → edges_in m.0 r + edges_in m.1 r ≡ edges_of n r) }
+    ensures edges { IfOk result (HavePairEdges context.now row) }
 {
     context.is_kept();
     let edge = Some(Edge::Node(row));
@@ -49,7 +48,7 @@ pub fn open_pairs<M: Mix>(context: &mut Context<M>, row: usize, log: &mut Log)
     requires held { 1 ≤ holds_of context.old 2 row }
     requires alone { count_of (row_of context.old 2 row) ≤ 1 }
     requires room { 0 < log.old.spare }
-    ensures opened { (n : Node) × (node_of context.old 2 row ≡ Some n) × IsLogged M.mixed context.old context.new log.old.steps log.new.steps (at_depth 1 (edges_of n)) (at_depth 2 (one_at row)) 0 }
+    ensures opened { OpensPairs M.mixed context.old context.new log.old log.new row }
     ensures below { (r : ℕ) → set_of context.new 1 r ≡ set_of context.old 1 r }
     ensures risen { HoldsRiseBy context.old context.new nothing }
 {
@@ -72,7 +71,7 @@ pub fn store_pairs<M: Mix, W: Ledger>(
     requires held { (r : ℕ) → edges_of node r ≤ holds_of context.old 1 r }
     requires room { LeavesRoom context.old 1 }
     ensures stands { IfOk result (StandsAt context.new 2 (node_set 2 (set_of context.old 1) node)) }
-    ensures logged { IfOk result (λ e. IsLogged M.mixed context.old context.new log.old.steps log.new.steps (edge_hold 2 e) (at_depth 1 (edges_of node)) 1) }
+    ensures logged { IfOk result (StoresPairs M.mixed context.old context.new log.old log.new node) }
     ensures grew { OnErr result (Grows M.mixed context.old context.new log.old.steps log.new.steps) }
     ensures ticks { interns.new ≤ interns.old + 1 }
     ensures risen { IfOk result (λ e. HoldsRiseBy context.old context.new (edge_hold 2 e)) }
@@ -108,7 +107,7 @@ pub fn replace_pairs<M: Mix, W: Ledger, V: Ledger>(
     requires room { LeavesRoom context.old (run_room run.now) }
     requires size { set.len (pairs_after change context.old old run.now) < 2 ^ 64 }
     ensures stands { IfOk result (StandsAt context.new 2 (pairs_after change context.old old run.now)) }
-    ensures logged { IfOk result (λ e. IsLogged M.mixed context.old context.new log.old.steps log.new.steps (edge_hold 2 e) (edge_hold 2 old) (run_room run.now)) }
+    ensures logged { IfOk result (ReplacesEdge M.mixed context.old context.new log.old log.new 2 old (run_room run.now)) }
     ensures grew { OnErr result (Grows M.mixed context.old context.new log.old.steps log.new.steps) }
     ensures ticks { interns.new ≤ interns.old + 3 * length run.now }
     ensures risen { IfOk result (λ e. HoldsRiseBy context.old context.new (edge_hold 2 e)) }

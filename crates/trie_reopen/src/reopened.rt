@@ -2,18 +2,16 @@
 ghost use Rattle.std.specs.Prelude.{◌≡◌, ◌≢◌, ◌+◌, ◌*◌, ◌≤◌, ◌<◌, ◌^◌, ℕ, Some, IsNone, IfSome, IfOk, OnErr, length};
 ghost use Rattle.std.specs.FinSet as set;
 ghost use Rattle.change_log.specs.Log.{edge_hold, Grows};
-ghost use Rattle.change_log.specs.Logged.{IsLogged};
 ghost use Rattle.edge_map.specs.declared.edge.Edge.{Edge};
-ghost use Rattle.trie_context.specs.FitEdges.{set_at, StandsAt, option_leads};
-ghost use Rattle.hypertrie_model.specs.IdSets.{IdSet};
-ghost use Rattle.trie_context.specs.Holds.{count_of, holds_of, one_at, at_depth};
+ghost use Rattle.trie_context.specs.FitEdges.{StandsAt, option_leads};
+ghost use Rattle.trie_context.specs.Holds.{count_of, holds_of};
 ghost use Rattle.trie_context.specs.Rows.{row_of};
 ghost use Rattle.trie_change.specs.After.{pairs_after, run_room};
 ghost use Rattle.trie_change.specs.Batches.{trip_rest};
 ghost use Rattle.trie_change.specs.Premises.{MayChangeEdge};
-ghost use Rattle.trie_change.specs.Extra.{shared_edges};
 ghost use Rattle.trie_change.specs.Rooms.{LeavesRoom, FitsSome};
-ghost use Rattle.trie_reopen.specs.Shared.{HoldsRiseBy, AreShared};
+ghost use Rattle.trie_reopen.specs.Shared.{HoldsRiseBy};
+ghost use Rattle.trie_reopen.specs.Named.{ReplacesEdge, ReplacesRow, RunRetains};
 
 use crate::pair_map::replace_pair_map;
 use crate::pairs::{open_pairs, pair_maps, replace_pairs, store_pairs};
@@ -43,7 +41,7 @@ fn reopen_pairs<M: Mix, W: Ledger>(
     requires room { LeavesRoom context.old (run_room run.now) }
     requires size { set.len (pairs_after change context.old (Some (Edge.Node row)) run.now) < 2 ^ 64 }
     ensures stands { IfOk result (StandsAt context.new 2 (pairs_after change context.old (Some (Edge.Node row)) run.now)) }
-    ensures logged { IfOk result (λ e. IsLogged M.mixed context.old context.new log.old.steps log.new.steps (edge_hold 2 e) (at_depth 2 (one_at row)) (run_room run.now)) }
+    ensures logged { IfOk result (ReplacesRow M.mixed context.old context.new log.old log.new row run.now) }
     ensures grew { OnErr result (Grows M.mixed context.old context.new log.old.steps log.new.steps) }
     ensures ticks { interns.new ≤ interns.old + 3 * length run.now }
     ensures risen { IfOk result (λ e. HoldsRiseBy context.old context.new (edge_hold 2 e)) }
@@ -101,11 +99,11 @@ pub fn change_held_pairs<M: Mix, W: Ledger, V: Ledger>(
     requires room { LeavesRoom context.old (run_room run.now) }
     requires size { set.len (pairs_after change context.old old run.now) < 2 ^ 64 }
     ensures stands { IfOk result (StandsAt context.new 2 (pairs_after change context.old old run.now)) }
-    ensures logged { IfOk result (λ e. IsLogged M.mixed context.old context.new log.old.steps log.new.steps (edge_hold 2 e) (edge_hold 2 old) (run_room run.now)) }
+    ensures logged { IfOk result (ReplacesEdge M.mixed context.old context.new log.old log.new 2 old (run_room run.now)) }
     ensures grew { OnErr result (Grows M.mixed context.old context.new log.old.steps log.new.steps) }
     ensures ticks { interns.new ≤ interns.old + 3 * length run.now }
     ensures risen { IfOk result (λ e. HoldsRiseBy context.old context.new (edge_hold 2 e)) }
-    ensures retained { (G H : IdSet) → AreShared G H context.old → retains.new ≤ retains.old + (2 * length run.now + shared_edges G H (set_at context.old 2 old)) }
+    ensures retained { RunRetains context.old old run.now retains.old retains.new }
 {
     context.is_kept();
     match own_row(context, old) {

@@ -1,18 +1,16 @@
 //! A map of edges to pairs changed, with the old edges kept in the log.
-ghost use Rattle.std.specs.Prelude.{◌≡◌, ◌+◌, ◌*◌, ◌≤◌, ◌^◌, ℕ, [], IfOk, OnOk, OnErr, length};
+ghost use Rattle.std.specs.Prelude.{◌≡◌, ◌+◌, ◌*◌, ◌≤◌, ℕ, [], IfOk, OnOk, OnErr, length};
 ghost use Rattle.change_log.specs.Log.{Grows};
-ghost use Rattle.change_log.specs.Logged.{IsLogged};
 ghost use Rattle.edge_map.specs.Edges.{changed};
 ghost use Rattle.edge_map.specs.Entries.{KeysRise};
-ghost use Rattle.hypertrie_model.specs.IdSets.{IdSet};
 ghost use Rattle.trie_depth.specs.Tuples.{trip_tuple};
 ghost use Rattle.trie_node.specs.Sets.{edges_in};
 ghost use Rattle.trie_context.specs.Holds.{holds_of};
-ghost use Rattle.trie_change.specs.After.{map_hold, run_room, triples_of};
+ghost use Rattle.trie_change.specs.After.{run_room, triples_of};
 ghost use Rattle.trie_change.specs.Premises.{MayChangeMap};
-ghost use Rattle.trie_change.specs.Extra.{extra_at};
 ghost use Rattle.trie_change.specs.Rooms.{LeavesRoom, AreChanged, AreSmallAfter};
-ghost use Rattle.trie_reopen.specs.Shared.{AreShared, AreTurned};
+ghost use Rattle.trie_change.specs.Named.{AreTriplesChanged};
+ghost use Rattle.trie_reopen.specs.Named.{LogRows, MapRetains, ReplacesTriples, StayShared};
 
 use crate::reopened::change_held_pairs;
 use change_log::Log;
@@ -42,12 +40,12 @@ fn replace_rows<M: Mix, W: Ledger, V: Ledger>(
     requires held { (r : ℕ) → edges_in old.now r ≤ holds_of context.old 2 r }
     requires room { LeavesRoom context.old (run_room triples.now) }
     ensures rise { OnOk result (KeysRise changes.new.items) }
-    ensures changed { OnOk result (AreChanged change context.old context.new 2 old.now (triples_of triples.now) (changed old.now changes.new.items)) }
-    ensures logged { OnOk result (IsLogged M.mixed context.old context.new log.old.steps log.new.steps (map_hold 2 (changed old.now changes.new.items)) (map_hold 2 old.now) (run_room triples.now)) }
+    ensures changed { OnOk result (AreTriplesChanged change context.old context.new old.now triples.now changes.new.items) }
+    ensures logged { OnOk result (LogRows M.mixed context.old context.new log.old log.new old.now triples.now changes.new.items) }
     ensures grew { OnErr result (Grows M.mixed context.old context.new log.old.steps log.new.steps) }
     ensures ticks { interns.new ≤ interns.old + 3 * length triples.now }
-    ensures shared { OnOk result ((G H : IdSet) (i : ℕ) → AreTurned change G H i context.old old.now triples.now → AreShared G H context.old → AreShared G H context.new) }
-    ensures retained { (G H : IdSet) (i : ℕ) → AreTurned change G H i context.old old.now triples.now → AreShared G H context.old → retains.new ≤ retains.old + (2 * length triples.now + extra_at G H i) }
+    ensures shared { OnOk result (StayShared change context.old context.new old.now triples.now) }
+    ensures retained { MapRetains change context.old old.now triples.now retains.old retains.new }
 {
     context.is_kept();
     let mut rest = triples;
@@ -88,11 +86,11 @@ pub fn replace_triple_map<M: Mix, W: Ledger, V: Ledger>(
     requires held { (r : ℕ) → edges_in old.now r ≤ holds_of context.old 2 r }
     requires room { LeavesRoom context.old (run_room triples.items) }
     ensures changed { IfOk result (AreChanged change context.old context.new 2 old.now (triples_of triples.items)) }
-    ensures logged { IfOk result (λ m. IsLogged M.mixed context.old context.new log.old.steps log.new.steps (map_hold 2 m) (map_hold 2 old.now) (run_room triples.items)) }
+    ensures logged { IfOk result (ReplacesTriples M.mixed context.old context.new log.old log.new old.now triples.items) }
     ensures grew { OnErr result (Grows M.mixed context.old context.new log.old.steps log.new.steps) }
     ensures ticks { interns.new ≤ interns.old + 3 * length triples.items }
-    ensures shared { OnOk result ((G H : IdSet) (i : ℕ) → AreTurned change G H i context.old old.now triples.items → AreShared G H context.old → AreShared G H context.new) }
-    ensures retained { (G H : IdSet) (i : ℕ) → AreTurned change G H i context.old old.now triples.items → AreShared G H context.old → retains.new ≤ retains.old + (2 * length triples.items + extra_at G H i) }
+    ensures shared { OnOk result (StayShared change context.old context.new old.now triples.items) }
+    ensures retained { MapRetains change context.old old.now triples.items retains.old retains.new }
 {
     let mut changes = Vec::new(alloc);
     replace_rows(

@@ -1,14 +1,14 @@
 //! The row of a graph: taken out with its edges in hand, and stored again as another.
-ghost use Rattle.std.specs.Prelude.{◌≡◌, ◌+◌, ◌≤◌, ◌<◌, ℕ, Some, IfOk, OnErr};
+ghost use Rattle.std.specs.Prelude.{◌≡◌, ◌+◌, ◌≤◌, ◌<◌, ℕ, IfOk, OnErr};
 ghost use Rattle.change_log.specs.Log.{Grows};
-ghost use Rattle.change_log.specs.Logged.{IsLogged};
 ghost use Rattle.trie_node.specs.declared.node.Node.{Node};
 ghost use Rattle.trie_node.specs.Sets.{edges_of};
-ghost use Rattle.trie_context.specs.Holds.{count_of, holds_of, one_at, at_depth};
+ghost use Rattle.trie_context.specs.Holds.{count_of, holds_of};
 ghost use Rattle.trie_context.specs.Kept.{IsNode};
-ghost use Rattle.trie_context.specs.Roots.{root_set, root_hold};
-ghost use Rattle.trie_context.specs.Rows.{row_of, node_of, set_of, node_set};
+ghost use Rattle.trie_context.specs.Roots.{root_set};
+ghost use Rattle.trie_context.specs.Rows.{row_of, set_of, node_set};
 ghost use Rattle.trie_change.specs.Rooms.{LeavesRoom};
+ghost use Rattle.trie_reopen.specs.Named.{HoldsAreOpened, OpensTriples, StoresTriples};
 
 use change_log::{Log, RowStep, Step};
 use edge_map::Edge;
@@ -22,9 +22,9 @@ pub fn open_triples<M: Mix>(context: &mut Context<M>, row: usize, log: &mut Log)
     requires held { 1 ≤ holds_of context.old 3 row }
     requires alone { count_of (row_of context.old 3 row) ≤ 1 }
     requires room { 0 < log.old.spare }
-    ensures opened { (n : Node) × (node_of context.old 3 row ≡ Some n) × IsLogged M.mixed context.old context.new log.old.steps log.new.steps (at_depth 2 (edges_of n)) (at_depth 3 (one_at row)) 0 }
+    ensures opened { OpensTriples M.mixed context.old context.new log.old log.new row }
     ensures below { (r : ℕ) → set_of context.new 2 r ≡ set_of context.old 2 r }
-    ensures holds { (n : Node) → node_of context.old 3 row ≡ Some n → (d r : ℕ) → holds_of context.new d r + at_depth 3 (one_at row) d r ≡ holds_of context.old d r + at_depth 2 (edges_of n) d r }
+    ensures holds { HoldsAreOpened context.old context.new row }
 {
     context.is_kept();
     match context.open(Held::<L3>::of_edge(Edge::Node(row))) {
@@ -44,7 +44,7 @@ pub fn store_triples<M: Mix, W: Ledger>(
     requires held { (r : ℕ) → edges_of node r ≤ holds_of context.old 2 r }
     requires room { LeavesRoom context.old 1 }
     ensures set { IfOk result (λ root. root_set context.new root ≡ node_set 3 (set_of context.old 2) node) }
-    ensures logged { IfOk result (λ root. IsLogged M.mixed context.old context.new log.old.steps log.new.steps (root_hold root) (at_depth 2 (edges_of node)) 1) }
+    ensures logged { IfOk result (StoresTriples M.mixed context.old context.new log.old log.new node) }
     ensures grew { OnErr result (Grows M.mixed context.old context.new log.old.steps log.new.steps) }
     ensures ticks { interns.new ≤ interns.old + 1 }
 {

@@ -12,7 +12,7 @@ ghost use Rattle.trie_change.specs.Batches.{IsOnce};
 ghost use Rattle.trie_change.specs.Changes.{grows};
 ghost use Rattle.trie_change.specs.Rooms.{CountsUpTo};
 ghost use Rattle.trie_context.specs.RootShape.{OnlyRootHeld};
-ghost use Rattle.trie_update.specs.Retained.{most_retained};
+ghost use Rattle.trie_update.specs.Retained.{change_retains, grow_retains, shrink_retains};
 
 use crate::record::Undo;
 use crate::replaced::replace_root;
@@ -47,7 +47,7 @@ pub fn change_open<M: Mix, W: Ledger, V: Ledger>(
     ensures tables { OnErr result (context.new ≡ context.old) }
     ensures root { OnErr result (root.new ≡ root.old) }
     ensures ticks { interns.new ≤ interns.old + (9 * length batch.now + 10) }
-    ensures retained { OnlyRootHeld context.old root.old → retains.new ≤ retains.old + most_retained (root_set context.old root.old) (graph_after change context.old root.old batch.now) (length batch.now) }
+    ensures retained { OnlyRootHeld context.old root.old → retains.new ≤ retains.old + change_retains change context.old root.old batch.now }
 {
     context.is_kept();
     let mut log = Log::new(alloc);
@@ -86,7 +86,7 @@ pub fn grow_open<M: Mix, W: Ledger, V: Ledger>(
     ensures tables { OnErr result (context.new ≡ context.old) }
     ensures root { OnErr result (root.new ≡ root.old) }
     ensures ticks { interns.new ≤ interns.old + (9 * length batch.now + 10) }
-    ensures retained { OnlyRootHeld context.old root.old → retains.new ≤ retains.old + most_retained (root_set context.old root.old) (with_batch context.old root.old batch.now) (length batch.now) }
+    ensures retained { OnlyRootHeld context.old root.old → retains.new ≤ retains.old + grow_retains context.old root.old batch.now }
 {
     change_open(alloc, context, Change::Grow, root, batch, interns, retains)
 }
@@ -112,7 +112,7 @@ pub fn shrink_open<M: Mix, W: Ledger, V: Ledger>(
     ensures tables { OnErr result (context.new ≡ context.old) }
     ensures root { OnErr result (root.new ≡ root.old) }
     ensures ticks { interns.new ≤ interns.old + (9 * length batch.now + 10) }
-    ensures retained { OnlyRootHeld context.old root.old → retains.new ≤ retains.old + most_retained (root_set context.old root.old) (without_batch context.old root.old batch.now) (length batch.now) }
+    ensures retained { OnlyRootHeld context.old root.old → retains.new ≤ retains.old + shrink_retains context.old root.old batch.now }
 {
     change_open(
         alloc,

@@ -14,7 +14,7 @@ ghost use Rattle.trie_change.specs.Batches.{IsOnce};
 ghost use Rattle.trie_change.specs.Changes.{grows};
 ghost use Rattle.trie_change.specs.Rooms.{CountsUpTo};
 ghost use Rattle.trie_context.specs.RootShape.{OnlyRootHeld};
-ghost use Rattle.trie_update.specs.Retained.{most_retained};
+ghost use Rattle.trie_update.specs.Retained.{change_retains};
 
 use change_log::{Log, RowStep, Step};
 use edge_map::Edge;
@@ -106,7 +106,7 @@ pub fn replace_root<M: Mix, W: Ledger, V: Ledger>(
     ensures logged { IfOk result (λ new. IsLogged M.mixed context.old context.new log.old.steps log.new.steps (root_hold new) (root_hold root.now) (2 ^ 65)) }
     ensures grew { OnErr result (Grows M.mixed context.old context.new log.old.steps log.new.steps) }
     ensures ticks { interns.new ≤ interns.old + (9 * length batch.now + 10) }
-    ensures retained { OnlyRootHeld context.old root.now → retains.new ≤ retains.old + most_retained (root_set context.old root.now) (graph_after change context.old root.now batch.now) (length batch.now) }
+    ensures retained { OnlyRootHeld context.old root.now → retains.new ≤ retains.old + change_retains change context.old root.now batch.now }
 {
     match row_to_open(context, root, batch.len()) {
         Some(row) => reopen_triples(alloc, context, change, row, batch, log, interns, retains),

@@ -1,4 +1,4 @@
-use Rattle.std.proofs.Common.{◌+◌, ◌≤◌, length, sym, subst, arith}
+use Rattle.std.proofs.Common.{◌+◌, ◌≤◌, sym, subst, arith}
 use Rattle.std.specs.FinSet as set
 use Rattle.hypertrie_model.specs.Changes.{IsChange}
 use Rattle.trie_depth.specs.Tuples.{trip_tuple}
@@ -8,8 +8,7 @@ use Rattle.trie_context.specs.Rows.{set_of}
 use Rattle.trie_change.specs.Batches.{set_of_entries}
 use Rattle.trie_change.specs.Changes.{grows}
 use Rattle.trie_context.specs.RootShape.{OnlyRootHeld}
-use Rattle.trie_change.specs.After.{graph_after}
-use Rattle.trie_update.specs.Retained.{most_retained}
+use Rattle.trie_update.specs.Retained.{change_retains}
 use Rattle.trie_update.proofs.RootHolds.{only_row}
 use Rattle.trie_update.proofs.Sizes.{at_most_both, two_left}
 use Rattle.trie_update.proofs.replaced.replace_root.Goals as goal
@@ -40,5 +39,5 @@ returns-in-Some-clause-retained g c only =
     let t = c.args.context.now in
     let row = c.in-Some.row in
     let is = c.in-Some.ensures.there in
-    subst (λ r. c.reopen_triples.new.retains ≤ c.args.retains.now + most_retained (root_set t r) (graph_after c.args.change t r c.args.batch.now) (length c.args.batch.now)) (sym is)
+    subst (λ r. c.reopen_triples.new.retains ≤ c.args.retains.now + change_retains c.args.change t r c.args.batch.now) (sym is)
     (omega (arith, c.reopen_triples.ensures.retained (only_row t row (subst (OnlyRootHeld t) is only))))

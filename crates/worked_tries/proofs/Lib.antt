@@ -1,3 +1,4 @@
+mod Alone
 mod Grown
 mod History
 mod Batches

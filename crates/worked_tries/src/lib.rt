@@ -13,6 +13,8 @@ mod nodes;
 #[cfg(test)]
 mod reads;
 #[cfg(test)]
+mod retained;
+#[cfg(test)]
 mod rows;
 #[cfg(test)]
 mod views;

@@ -1,0 +1,27 @@
+use Rattle.std.proofs.Common.{arith}
+use Rattle.std.specs.Cmp.{nat_cmp_total as total}
+use Rattle.std.specs.FinMap.{nat_cmp-IsAntisymmetric as exact}
+use Rattle.std.specs.Ordering.{nat_cmp}
+use Rattle.hypertrie_model.specs.ChangeLaws.{len-grown}
+use Rattle.hypertrie_model.specs.SetLaws.{len-single}
+use Rattle.hypertrie_model.specs.Sets.{single}
+use Rattle.trie_depth.specs.Tuples.{trip_tuple}
+use Rattle.trie_context.specs.Roots.{root_set}
+use Rattle.worked_tries.proofs.Alone.{alone_new, no_extra}
+use Rattle.worked_tries.proofs.retained.grow_alone.Goals as goal
+
+pub grow-requires-clause-once : goal.grow-requires-clause-once
+grow-requires-clause-once g c = len-single total exact (trip_tuple c.args.triple)
+
+pub grow-requires-clause-new : goal.grow-requires-clause-new
+grow-requires-clause-new g c = alone_new (root_set c.args.context.now c.args.root.now) (trip_tuple c.args.triple) c.requires.new
+
+pub grow-requires-clause-size : goal.grow-requires-clause-size
+grow-requires-clause-size g c =
+    let G = root_set c.args.context.now c.args.root.now in
+    let t = trip_tuple c.args.triple in
+    omega (arith, c.requires.size, len-grown total exact G (single nat_cmp t) (alone_new G t c.requires.new), len-single total exact t)
+
+pub returns : goal.returns
+returns g c =
+    omega (arith, c.grow.ensures.retained c.requires.only, no_extra (root_set c.args.context.now c.args.root.now) (trip_tuple c.args.triple) c.requires.alone)

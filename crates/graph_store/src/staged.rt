@@ -9,8 +9,8 @@ ghost use Rattle.ntriples_model.specs.Proper.{IsProperTriple};
 ghost use Rattle.graph_store.specs.State.{graph, most_triples, IsSettled};
 ghost use Rattle.graph_store.specs.Staging.{nothing_staged, staged_graph, is_held, StagesOne, Fits, before, IsFull};
 ghost use Rattle.graph_store.specs.Retained.{insert_retains};
-ghost use Rattle.trie_update.specs.Retained.{most_retained};
 ghost use Rattle.graph_store.specs.declared.staged.StageFault.TheVariants as fault;
+ghost use Rattle.graph_store.specs.Retained.{PutRetains};
 
 use crate::look_up::has;
 use crate::store::{Changed, Store};
@@ -206,7 +206,7 @@ fn put_in<M: Mix, W: Ledger, V: Ledger>(
     ensures tables { OnErr result (context.new ≡ context.old) }
     ensures root { OnErr result (root.new ≡ root.old) }
     ensures ticks { interns.new ≤ interns.old + (9 * set.len trips + 10) }
-    ensures retained { retains.new ≤ retains.old + most_retained (root_set context.old root.old) (set.union (root_set context.old root.old) trips) (set.len trips) }
+    ensures retained { PutRetains (root_set context.old root.old) trips retains.old retains.new }
 {
     // This call tells the proof that the tables are kept.
     context.tables();

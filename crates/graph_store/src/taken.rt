@@ -1,5 +1,5 @@
 //! Triples that are marked, and then deleted together.
-ghost use Rattle.std.specs.Prelude.{◌≡◌, ◌+◌, ◌*◌, ◌≤◌, ℕ, true, false, IsSome, IfSome, IfOk, OnOk, OnErr, length};
+ghost use Rattle.std.specs.Prelude.{◌≡◌, ◌+◌, ◌*◌, ◌≤◌, ℕ, true, false, IsSome, IfSome, IfOk, OnOk, OnErr};
 ghost use Rattle.std.specs.FinMap as map;
 ghost use Rattle.std.specs.FinSet as set;
 ghost use Rattle.rdf_term.specs.Seen.{lent_triple};
@@ -12,10 +12,11 @@ ghost use Rattle.trie_view.specs.Subs.{sub_depth, sub_set};
 ghost use Rattle.graph_image.specs.Images.{is_among, IsUsed};
 ghost use Rattle.graph_view.specs.Read.{set_in};
 ghost use Rattle.graph_store.specs.Retained.{delete_retains};
-ghost use Rattle.trie_update.specs.Retained.{most_retained};
 ghost use Rattle.graph_store.specs.State.{graph, most_triples, IsSettled};
 ghost use Rattle.graph_store.specs.Staging.{marked_graph, MarksOne, AreMarked, numbers, AreDistinct};
 ghost use Rattle.graph_store.specs.Forgotten.{Forgets};
+ghost use Rattle.trie_change.specs.After.{without_batch};
+ghost use Rattle.trie_update.specs.Retained.{shrink_retains};
 
 use crate::ids::ids_in;
 use crate::look_up::{has, is_used};
@@ -130,12 +131,12 @@ fn take_out<M: Mix, W: Ledger, V: Ledger>(
     requires once { IsOnce trip_tuple batch.now }
     requires there { IsChange false (root_set context.old root.old) (set_of_entries trip_tuple batch.now) }
     requires few { set.len (root_set context.old root.old) ≤ most_triples }
-    ensures set { OnOk result (root_set context.new root.new ≡ set.difference (root_set context.old root.old) (set_of_entries trip_tuple batch.now)) }
+    ensures set { OnOk result (root_set context.new root.new ≡ without_batch context.old root.old batch.now) }
     ensures only { OnlyRootHeld context.new root.new }
     ensures tables { OnErr result (context.new ≡ context.old) }
     ensures root { OnErr result (root.new ≡ root.old) }
     ensures ticks { interns.new ≤ interns.old + (9 * set.len (set_of_entries trip_tuple batch.now) + 10) }
-    ensures retained { retains.new ≤ retains.old + most_retained (root_set context.old root.old) (set.difference (root_set context.old root.old) (set_of_entries trip_tuple batch.now)) (length batch.now) }
+    ensures retained { retains.new ≤ retains.old + shrink_retains context.old root.old batch.now }
 {
     // This call tells the proof that the tables are kept.
     context.tables();

@@ -1,9 +1,11 @@
 -- How many edges a batch retains.
-use Rattle.std.specs.Prelude.{ℕ, ◌+◌, ◌*◌, List, length}
+use Rattle.std.specs.Prelude.{ℕ, ◌+◌, ◌*◌, ◌≤◌, List, length}
+use Rattle.std.specs.FinSet as set
 use Rattle.hypertrie_model.specs.IdSets.{IdSet}
 use Rattle.trie_depth.specs.declared.id.Trip.{Trip}
 use Rattle.trie_context.specs.declared.root.Root.{Root}
 use Rattle.trie_context.specs.declared.tables.Tables.{Tables}
+use Rattle.trie_context.specs.RootShape.{OnlyRootHeld}
 use Rattle.trie_context.specs.Roots.{root_set}
 use Rattle.trie_change.specs.declared.change.Change.{Change}
 use Rattle.trie_change.specs.After.{graph_after, with_batch, without_batch}
@@ -22,3 +24,17 @@ grow_retains t root batch = most_retained (root_set t root) (with_batch t root b
 
 abbrev pub shrink_retains : Tables → Root → List Trip → ℕ
 shrink_retains t root batch = most_retained (root_set t root) (without_batch t root batch) (length batch)
+
+-- where only the root is held, such a batch retains no more from one count to another
+abbrev pub ChangeRetains : Change → Tables → Root → List Trip → ℕ → ℕ → Type 0
+ChangeRetains change t root batch before now = OnlyRootHeld t root → now ≤ before + change_retains change t root batch
+
+abbrev pub GrowRetains : Tables → Root → List Trip → ℕ → ℕ → Type 0
+GrowRetains t root batch before now = OnlyRootHeld t root → now ≤ before + grow_retains t root batch
+
+abbrev pub ShrinkRetains : Tables → Root → List Trip → ℕ → ℕ → Type 0
+ShrinkRetains t root batch before now = OnlyRootHeld t root → now ≤ before + shrink_retains t root batch
+
+-- where only the root is held, it has no more triples than twice the batch and one
+abbrev pub IsSmall : Tables → Root → ℕ → Type 0
+IsSmall t root batch = OnlyRootHeld t root → set.len (root_set t root) ≤ 2 * batch + 1

@@ -1,18 +1,17 @@
 //! A graph changed, with what was replaced kept.
-ghost use Rattle.std.specs.Prelude.{◌≡◌, ◌+◌, ◌*◌, ◌<◌, ◌≤◌, ◌^◌, ℕ, [], true, false, IfOk, OnOk, OnErr, length};
+ghost use Rattle.std.specs.Prelude.{◌≡◌, ◌+◌, ◌*◌, ◌<◌, ◌≤◌, ◌^◌, true, false, IfOk, OnOk, OnErr, length};
 ghost use Rattle.std.specs.FinSet as set;
 ghost use Rattle.hypertrie_model.specs.Changes.{IsChange};
 ghost use Rattle.trie_depth.specs.Tuples.{trip_tuple};
-ghost use Rattle.trie_context.specs.Roots.{root_set, root_hold, IsHeld};
+ghost use Rattle.trie_context.specs.Roots.{root_set, IsHeld};
 ghost use Rattle.change_log.specs.Log.{reserved_in};
-ghost use Rattle.change_log.specs.Logged.{IsLogged};
 ghost use Rattle.change_log.specs.Places.{ArePlacesBeside};
 ghost use Rattle.trie_change.specs.After.{triples_of, graph_after, with_batch, without_batch};
 ghost use Rattle.trie_change.specs.Batches.{IsOnce};
 ghost use Rattle.trie_change.specs.Changes.{grows};
 ghost use Rattle.trie_change.specs.Rooms.{CountsUpTo};
-ghost use Rattle.trie_context.specs.RootShape.{OnlyRootHeld};
-ghost use Rattle.trie_update.specs.Retained.{change_retains, grow_retains, shrink_retains};
+ghost use Rattle.trie_update.specs.Opened.{LogsChange};
+ghost use Rattle.trie_update.specs.Retained.{ChangeRetains, GrowRetains, ShrinkRetains};
 
 use crate::record::Undo;
 use crate::replaced::replace_root;
@@ -41,13 +40,13 @@ pub fn change_open<M: Mix, W: Ledger, V: Ledger>(
     requires size { set.len (root_set context.old root.old) ≤ 536870912 }
     requires batch { length batch.now ≤ 536870912 }
     ensures set { OnOk result (root_set context.new root.new ≡ graph_after change context.old root.old batch.now) }
-    ensures logged { IfOk result (λ u. IsLogged M.mixed context.old context.new [] u.log.steps (root_hold root.new) (root_hold root.old) (2 ^ 65)) }
+    ensures logged { IfOk result (λ u. LogsChange M.mixed context.old context.new root.old root.new u.log.steps) }
     ensures places { IfOk result (λ u. ArePlacesBeside u.log.steps (reserved_in context.old) (reserved_in context.new)) }
     ensures was { IfOk result (λ u. u.was ≡ root.old) }
     ensures tables { OnErr result (context.new ≡ context.old) }
     ensures root { OnErr result (root.new ≡ root.old) }
     ensures ticks { interns.new ≤ interns.old + (9 * length batch.now + 10) }
-    ensures retained { OnlyRootHeld context.old root.old → retains.new ≤ retains.old + change_retains change context.old root.old batch.now }
+    ensures retained { ChangeRetains change context.old root.old batch.now retains.old retains.new }
 {
     context.is_kept();
     let mut log = Log::new(alloc);
@@ -80,13 +79,13 @@ pub fn grow_open<M: Mix, W: Ledger, V: Ledger>(
     requires counts { CountsUpTo context.old (2 ^ 96) }
     requires size { set.len (with_batch context.old root.old batch.now) ≤ 536870912 }
     ensures set { OnOk result (root_set context.new root.new ≡ with_batch context.old root.old batch.now) }
-    ensures logged { IfOk result (λ u. IsLogged M.mixed context.old context.new [] u.log.steps (root_hold root.new) (root_hold root.old) (2 ^ 65)) }
+    ensures logged { IfOk result (λ u. LogsChange M.mixed context.old context.new root.old root.new u.log.steps) }
     ensures places { IfOk result (λ u. ArePlacesBeside u.log.steps (reserved_in context.old) (reserved_in context.new)) }
     ensures was { IfOk result (λ u. u.was ≡ root.old) }
     ensures tables { OnErr result (context.new ≡ context.old) }
     ensures root { OnErr result (root.new ≡ root.old) }
     ensures ticks { interns.new ≤ interns.old + (9 * length batch.now + 10) }
-    ensures retained { OnlyRootHeld context.old root.old → retains.new ≤ retains.old + grow_retains context.old root.old batch.now }
+    ensures retained { GrowRetains context.old root.old batch.now retains.old retains.new }
 {
     change_open(alloc, context, Change::Grow, root, batch, interns, retains)
 }
@@ -106,13 +105,13 @@ pub fn shrink_open<M: Mix, W: Ledger, V: Ledger>(
     requires counts { CountsUpTo context.old (2 ^ 96) }
     requires size { set.len (with_batch context.old root.old batch.now) ≤ 536870912 }
     ensures set { OnOk result (root_set context.new root.new ≡ without_batch context.old root.old batch.now) }
-    ensures logged { IfOk result (λ u. IsLogged M.mixed context.old context.new [] u.log.steps (root_hold root.new) (root_hold root.old) (2 ^ 65)) }
+    ensures logged { IfOk result (λ u. LogsChange M.mixed context.old context.new root.old root.new u.log.steps) }
     ensures places { IfOk result (λ u. ArePlacesBeside u.log.steps (reserved_in context.old) (reserved_in context.new)) }
     ensures was { IfOk result (λ u. u.was ≡ root.old) }
     ensures tables { OnErr result (context.new ≡ context.old) }
     ensures root { OnErr result (root.new ≡ root.old) }
     ensures ticks { interns.new ≤ interns.old + (9 * length batch.now + 10) }
-    ensures retained { OnlyRootHeld context.old root.old → retains.new ≤ retains.old + shrink_retains context.old root.old batch.now }
+    ensures retained { ShrinkRetains context.old root.old batch.now retains.old retains.new }
 {
     change_open(
         alloc,

@@ -8,13 +8,12 @@ ghost use Rattle.trie_context.specs.Holds.{count_of};
 ghost use Rattle.trie_context.specs.Roots.{root_set, root_hold, IsHeld};
 ghost use Rattle.trie_context.specs.Rows.{row_of, set_of};
 ghost use Rattle.change_log.specs.Log.{edge_hold, Grows};
-ghost use Rattle.change_log.specs.Logged.{IsLogged};
 ghost use Rattle.trie_change.specs.After.{triples_of, graph_after};
 ghost use Rattle.trie_change.specs.Batches.{IsOnce};
 ghost use Rattle.trie_change.specs.Changes.{grows};
 ghost use Rattle.trie_change.specs.Rooms.{CountsUpTo};
-ghost use Rattle.trie_context.specs.RootShape.{OnlyRootHeld};
-ghost use Rattle.trie_update.specs.Retained.{change_retains};
+ghost use Rattle.trie_update.specs.Opened.{ReplacesRoot};
+ghost use Rattle.trie_update.specs.Retained.{ChangeRetains, IsSmall};
 
 use change_log::{Log, RowStep, Step};
 use edge_map::Edge;
@@ -41,7 +40,7 @@ fn row_to_open<M: Mix>(context: &Context<M>, root: &Root, batch: usize) -> Optio
     ensures there { IfSome result (λ row. root.now ≡ Root.Many row) }
     ensures alone { IfSome result (λ row. count_of (row_of context.now 3 row) ≤ 1) }
     ensures large { IfSome result (λ row. 2 * batch + 2 ≤ set.len (set_of context.now 3 row)) }
-    ensures small { IsNone result → OnlyRootHeld context.now root.now → set.len (root_set context.now root.now) ≤ 2 * batch + 1 }
+    ensures small { IsNone result → IsSmall context.now root.now batch }
 {
     let Root::Many(held) = root else {
         return None;
@@ -73,7 +72,7 @@ fn copy_root<M: Mix, W: Ledger, V: Ledger>(
     requires size { set.len (root_set context.old root.now) ≤ 536870912 }
     requires batch { length batch.now ≤ 536870912 }
     ensures set { IfOk result (λ new. root_set context.new new ≡ graph_after change context.old root.now batch.now) }
-    ensures logged { IfOk result (λ new. IsLogged M.mixed context.old context.new log.old.steps log.new.steps (root_hold new) (root_hold root.now) (2 ^ 65)) }
+    ensures logged { IfOk result (ReplacesRoot M.mixed context.old context.new log.old log.new root.now) }
     ensures grew { OnErr result (Grows M.mixed context.old context.new log.old.steps log.new.steps) }
     ensures ticks { interns.new ≤ interns.old + (9 * length batch.now + 10) }
     ensures retained { retains.new ≤ retains.old + 9 * (set.len (root_set context.old root.now) + length batch.now) }
@@ -103,10 +102,10 @@ pub fn replace_root<M: Mix, W: Ledger, V: Ledger>(
     requires size { set.len (root_set context.old root.now) ≤ 536870912 }
     requires batch { length batch.now ≤ 536870912 }
     ensures set { IfOk result (λ new. root_set context.new new ≡ graph_after change context.old root.now batch.now) }
-    ensures logged { IfOk result (λ new. IsLogged M.mixed context.old context.new log.old.steps log.new.steps (root_hold new) (root_hold root.now) (2 ^ 65)) }
+    ensures logged { IfOk result (ReplacesRoot M.mixed context.old context.new log.old log.new root.now) }
     ensures grew { OnErr result (Grows M.mixed context.old context.new log.old.steps log.new.steps) }
     ensures ticks { interns.new ≤ interns.old + (9 * length batch.now + 10) }
-    ensures retained { OnlyRootHeld context.old root.now → retains.new ≤ retains.old + change_retains change context.old root.now batch.now }
+    ensures retained { ChangeRetains change context.old root.now batch.now retains.old retains.new }
 {
     match row_to_open(context, root, batch.len()) {
         Some(row) => reopen_triples(alloc, context, change, row, batch, log, interns, retains),

@@ -10,8 +10,7 @@ ghost use Rattle.trie_change.specs.After.{triples_of, graph_after, with_batch, w
 ghost use Rattle.trie_change.specs.Batches.{IsOnce};
 ghost use Rattle.trie_change.specs.Changes.{grows};
 ghost use Rattle.trie_change.specs.Rooms.{CountsUpTo, HeldStay};
-ghost use Rattle.trie_context.specs.RootShape.{OnlyRootHeld};
-ghost use Rattle.trie_update.specs.Retained.{change_retains, grow_retains, shrink_retains};
+ghost use Rattle.trie_update.specs.Retained.{ChangeRetains, GrowRetains, ShrinkRetains};
 
 use crate::end::settle;
 use crate::open::change_open;
@@ -45,7 +44,7 @@ fn update<M: Mix, W: Ledger, V: Ledger>(
     ensures tables { OnErr result (context.new ≡ context.old) }
     ensures root { OnErr result (root.new ≡ root.old) }
     ensures ticks { interns.new ≤ interns.old + (9 * length batch.now + 10) }
-    ensures retained { OnlyRootHeld context.old root.old → retains.new ≤ retains.old + change_retains change context.old root.old batch.now }
+    ensures retained { ChangeRetains change context.old root.old batch.now retains.old retains.new }
 {
     context.is_kept();
     let undo = change_open(alloc, context, change, root, batch, interns, retains)?;
@@ -75,7 +74,7 @@ pub fn grow<M: Mix, W: Ledger, V: Ledger>(
     ensures tables { OnErr result (context.new ≡ context.old) }
     ensures root { OnErr result (root.new ≡ root.old) }
     ensures ticks { interns.new ≤ interns.old + (9 * length batch.now + 10) }
-    ensures retained { OnlyRootHeld context.old root.old → retains.new ≤ retains.old + grow_retains context.old root.old batch.now }
+    ensures retained { GrowRetains context.old root.old batch.now retains.old retains.new }
 {
     update(alloc, context, Change::Grow, root, batch, interns, retains)
 }
@@ -102,7 +101,7 @@ pub fn shrink<M: Mix, W: Ledger, V: Ledger>(
     ensures tables { OnErr result (context.new ≡ context.old) }
     ensures root { OnErr result (root.new ≡ root.old) }
     ensures ticks { interns.new ≤ interns.old + (9 * length batch.now + 10) }
-    ensures retained { OnlyRootHeld context.old root.old → retains.new ≤ retains.old + shrink_retains context.old root.old batch.now }
+    ensures retained { ShrinkRetains context.old root.old batch.now retains.old retains.new }
 {
     update(
         alloc,

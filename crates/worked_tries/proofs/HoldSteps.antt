@@ -18,7 +18,7 @@ use Rattle.trie_context.specs.Rows.{no_tables, row_of, node_of, row_set, set_of}
 use Rattle.trie_context.specs.Holds.{count_of, holds_of, one_at, at_depth, nothing, HasRoom, CountsRiseBy}
 use Rattle.trie_context.specs.Kept.{AreMoved}
 use Rattle.trie_context.specs.RowLaws.{empty_at, key_node_edges}
-use Rattle.trie_context.specs.MoveLaws.{leads_one, at_here, at_other, if_other, if_same, same_or_not}
+use Rattle.trie_context.specs.MoveLaws.{leads_one, one_here, at_here, at_other, if_other, if_same, same_or_not}
 use Rattle.worked_tries.proofs.KeysAndPairs.{zero_mix, key_node, key_node_form, pair_node}
 
 pub no_count : (d r : ℕ) → count_of (row_of no_tables d r) ≡ 0
@@ -91,3 +91,25 @@ module _ (t u : Tables) (k : ℕ) where
 
   pub let_go : AreMoved zero_mix t u nothing (at_depth 2 (one_at k)) → (r : ℕ) → holds_of u 2 r + one_at k r ≡ holds_of t 2 r
   let_go m r = omega (arith, m.holds 2 r, at_here 2 (one_at k) r)
+
+-- the tables before and after keys are put in, and with a second hold through the edge to them
+module _ (t t1 t2 : Tables) (k : ℕ) (n : ℕ → ℕ) (made : AreMoved zero_mix t t1 (at_depth 1 (one_at k)) (at_depth 0 n)) (e : Edge) (to : e ≡ ToRow k) (more : AreMoved zero_mix t1 t2 (at_depth 1 (leads e)) nothing) where
+  to_row : (r : ℕ) → leads e r ≡ one_at k r
+  to_row r = ap (λ f. leads f r) to ∙ leads_one k r
+
+  pub held_twice : (r : ℕ) → leads e r + leads e r ≤ holds_of t2 1 r
+  held_twice r = omega (arith, more.holds 1 r, at_here 1 (leads e) r, (put_keys t t1 k n made r).0, to_row r)
+
+  pub held_once : (t3 : Tables) → AreMoved zero_mix t2 t3 nothing (at_depth 1 (leads e)) → (r : ℕ) → leads e r ≤ holds_of t3 1 r
+  held_once t3 less r = omega (arith, less.holds 1 r, at_here 1 (leads e) r, held_twice r)
+
+  pub two_holds : 2 ≤ holds_of t2 1 k
+  two_holds = omega (arith, held_twice k, to_row k, one_here k)
+
+  -- so the row's count isn't 1
+  pub not_alone : count_of (row_of t2 1 k) ≡ 1 → ⊥
+  not_alone one = omega (arith, two_holds, one)
+
+  -- a hold left when the other was given up
+  pub one_left : (t3 : Tables) → AreMoved zero_mix t2 t3 nothing (at_depth 1 (one_at k)) → (r : ℕ) → leads e r ≤ holds_of t3 1 r
+  one_left t3 less r = omega (arith, less.holds 1 r, at_here 1 (one_at k) r, held_twice r, to_row r)

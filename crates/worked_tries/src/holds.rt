@@ -1,5 +1,5 @@
-//! Two sets of pairs that share one key set, with one hash for all nodes, a map of edges retained and given up, and a row
-//! found and not found.
+//! Two sets of pairs that share one key set, with one hash for all nodes, a map of edges retained and given up, a row
+//! found and not found, and one that is not opened.
 ghost use Rattle.std.specs.Prelude.{◌≡◌, ◌<◌, None, Some, IfOk};
 ghost use Rattle.std.specs.FinMap as map;
 ghost use Rattle.edge_map.specs.declared.edge.Edge.{Edge};
@@ -9,7 +9,7 @@ use edge_map::{Edge, EdgeMap};
 use std::alloc::Global;
 use std::marker::Brand;
 use std::sync::ledger::{Blank, Ledger};
-use trie_context::Context;
+use trie_context::{Context, Held};
 use trie_depth::{ConstMix, Id, L1, L2, Memory, Steps};
 use trie_node::Node;
 
@@ -107,6 +107,34 @@ fn found<W: Ledger>(alloc: Global, steps: &mut Steps<W>) -> Result<(bool, u128, 
     Ok((held, count, given_up))
 }
 
+/// The count of the row of the keys after a try to open it while it has a second hold, and how many rows there are once
+/// both are given up.
+fn not_opened<W: Ledger>(alloc: Global, steps: &mut Steps<W>) -> Result<(u128, u64), Memory> {
+    let mut context = Context::<ConstMix>::new(alloc);
+    let keys = context.intern::<L1, W>(two_keys(alloc, Id(2), Id(3))?, steps)?;
+    let row = keys.row();
+    let edge = keys.into_edge();
+    context.retain_edge::<L2, W>(edge, steps);
+    match context.open(Held::<L1>::of_edge(edge)) {
+        Ok(_) => unreachable!(),
+        Err(held) => {
+            let count = context.tables().one.count(row);
+            context.release(held);
+            context.release_edge::<L2>(edge);
+            Ok((count, context.tables().one.len()))
+        }
+    }
+}
+
+fn counted_not_opened<W: Ledger>(alloc: Global, blank: Blank) -> Result<(u128, u64), Memory>
+    requires name { blank.name ≡ W.name }
+    requires parts { blank.parts ≡ W.parts }
+    requires whole { 0 < W.parts }
+{
+    let mut steps = Steps::<W>::new(blank);
+    not_opened(alloc, &mut steps)
+}
+
 fn counted_found<W: Ledger>(alloc: Global, blank: Blank) -> Result<(bool, u128, bool), Memory>
     requires name { blank.name ≡ W.name }
     requires parts { blank.parts ≡ W.parts }
@@ -152,5 +180,12 @@ fn retains_and_releases_a_map(rt: HostRuntime) -> Result<(), Memory> {
 fn finds_a_row_while_it_is_held(rt: HostRuntime) -> Result<(), Memory> {
     let (held, count, given_up) = counted_found::<Brand>(rt.alloc(), Blank::new(1))?;
     assert_eq!(rt; (held, count, given_up), (true, 2, false));
+    Ok(())
+}
+
+#[test]
+fn keeps_a_shared_row_closed(rt: HostRuntime) -> Result<(), Memory> {
+    let (count, rows) = counted_not_opened::<Brand>(rt.alloc(), Blank::new(1))?;
+    assert_eq!(rt; (count, rows), (2, 0));
     Ok(())
 }

@@ -1,27 +1,12 @@
-use Rattle.std.proofs.Common.{◌≡◌, ◌≤◌, ◌+◌, ℕ, arith, ap, sym, subst, ◌∙◌, IsSome}
-use Rattle.edge_map.specs.declared.edge.Edge.{Edge}
-use Rattle.edge_map.specs.declared.edge.Edge.TheVariants.{Node as ToRow}
-use Rattle.trie_node.specs.Sets.{set_hash, leads, edges_of}
+use Rattle.std.proofs.Common.{arith, ap, sym, subst, ◌∙◌, IsSome}
+use Rattle.trie_node.specs.Sets.{set_hash, edges_of}
 use Rattle.trie_node.specs.Forms.{IsKeyNode}
-use Rattle.trie_context.specs.declared.tables.Tables.{Tables}
 use Rattle.trie_context.specs.Rows.{no_tables, row_of}
-use Rattle.trie_context.specs.Holds.{holds_of, one_at, at_depth, nothing, HasRoom}
-use Rattle.trie_context.specs.Kept.{AreMoved}
-use Rattle.trie_context.specs.MoveLaws.{at_here, leads_one, node_there, row_stays_there}
+use Rattle.trie_context.specs.Holds.{HasRoom}
+use Rattle.trie_context.specs.MoveLaws.{node_there, row_stays_there}
 use Rattle.worked_tries.proofs.KeysAndPairs.{zero_mix, two, three, rise, key_node_form}
-use Rattle.worked_tries.proofs.HoldSteps.{AreFew, no_rows_few, few_more, few_room, key_edges, put_keys}
+use Rattle.worked_tries.proofs.HoldSteps.{AreFew, no_rows_few, few_more, few_room, key_edges, held_twice, held_once}
 use Rattle.worked_tries.proofs.holds.found.Goals as goal
-
--- the tables before and after the keys are put in, and with a second hold through the edge to them
-module _ (t t1 t2 : Tables) (k : ℕ) (n : ℕ → ℕ) (made : AreMoved zero_mix t t1 (at_depth 1 (one_at k)) (at_depth 0 n)) (e : Edge) (to : e ≡ ToRow k) (more : AreMoved zero_mix t1 t2 (at_depth 1 (leads e)) nothing) where
-  held_twice : (r : ℕ) → leads e r + leads e r ≤ holds_of t2 1 r
-  held_twice r =
-      let h = (put_keys t t1 k n made r).0 in
-      let to_row : leads e r ≡ one_at k r = ap (λ f. leads f r) to ∙ leads_one k r in
-      omega (arith, more.holds 1 r, at_here 1 (leads e) r, h, to_row)
-
-  held_once : (t3 : Tables) → AreMoved zero_mix t2 t3 nothing (at_depth 1 (leads e)) → (r : ℕ) → leads e r ≤ holds_of t3 1 r
-  held_once t3 less r = omega (arith, less.holds 1 r, at_here 1 (leads e) r, held_twice r)
 
 pub intern-requires-clause-form : goal.intern-requires-clause-form
 intern-requires-clause-form g c = subst (IsKeyNode (set_hash zero_mix 1)) (sym c.in_ok-two_keys.ensures) (key_node_form two three rise)

@@ -1,7 +1,6 @@
 -- The batches of the tests.
-use Rattle.std.specs.Prelude.{ℕ, false, List, [], ◌∷◌, map, refl}
+use Rattle.std.specs.Prelude.{false, List, [], ◌∷◌, map, refl}
 use Rattle.std.specs.List.Sorted.{IsStrictlySortedBy}
-use Rattle.std.specs.Ordering.{nat_cmp}
 use Rattle.hypertrie_model.specs.Changes.{IsChange}
 use Rattle.trie_depth.specs.declared.id.Trip.{Trip}
 use Rattle.trie_depth.specs.Tuples.{trip_tuple}

@@ -1,5 +1,5 @@
 -- The change that the tests of a log make, and what is known before and after it.
-use Rattle.std.specs.Prelude.{◌≡◌, ℕ, ◌+◌, ◌≤◌, List, Some}
+use Rattle.std.specs.Prelude.{◌≡◌, ℕ, ◌≤◌, List, Some}
 use Rattle.trie_node.specs.declared.node.Node.{Node}
 use Rattle.trie_node.specs.Sets.{edges_of}
 use Rattle.trie_context.specs.declared.kept.Kept.{Kept}

@@ -1,17 +1,16 @@
 -- What a tuple that stands alone in its slices has copied.
-use Rattle.std.specs.Prelude.{◌≡◌, ◌≢◌, ℕ, ◌+◌, ◌*◌, ◌<◌, ◌≤◌, ◌&&◌, not, Bool, true, false, cond, List, refl, None, Some}
+use Rattle.std.specs.Prelude.{◌≡◌, ℕ, ◌*◌, ◌≤◌, not, Bool, true, false, cond, List, refl, None, Some}
 use Rattle.std.proofs.Common.{sym, ◌∙◌, ap, subst, arith}
 use Rattle.std.specs.Ordering.{nat_cmp, eq_by_cmp}
 use Rattle.std.specs.Cmp.{nat_cmp_total as total}
 use Rattle.std.specs.Cmp.Lexicographic.{slice_cmp}
-use Rattle.std.specs.FinMap as map
 use Rattle.std.specs.FinMap.{nat_cmp-IsAntisymmetric as exact}
 use Rattle.std.specs.FinSet as set
 use Rattle.std.specs.FinSet.{slice_cmp-IsAntisymmetric}
 use native.Mathlib.Decide.{dec_lt}
 use Rattle.hypertrie_model.specs.Changes.{IsChange}
 use Rattle.hypertrie_model.specs.ChangeLaws.{slice-after, after-empty}
-use Rattle.hypertrie_model.specs.Folds.{sum_over, marked}
+use Rattle.hypertrie_model.specs.Folds.{marked}
 use Rattle.hypertrie_model.specs.FoldLaws.{sum_over-has, get-marked}
 use Rattle.hypertrie_model.specs.IdSets.{IdSet}
 use Rattle.hypertrie_model.specs.Members.{contains-kept}
@@ -22,9 +21,9 @@ use Rattle.hypertrie_model.specs.ShapeLaws.{sets_total}
 use Rattle.hypertrie_model.specs.SliceLaws.{has-keys, slice-no_key}
 use Rattle.hypertrie_model.specs.Slices.{is_at, keys, slice}
 use Rattle.trie_change.specs.Extra.{touched, shared_edges, extra_at, extra}
-use Rattle.worked_tries.specs.Alone.{IsAlone}
+use Rattle.worked_tries.specs.Alone.{IsAlone, IsApart}
 
-single_is : (t q : List ℕ) → has (single nat_cmp t) q ≡ true → q ≡ t
+pub single_is : (t q : List ℕ) → has (single nat_cmp t) q ≡ true → q ≡ t
 single_is t q there = tied-is (slice_cmp-IsAntisymmetric exact) q t (sym (has-single total exact t q) ∙ there)
 
 -- a tuple that isn't there is new
@@ -77,7 +76,7 @@ module _ (G : IdSet) (t : List ℕ) where
   no_extra alone = omega (arith, none_at alone 0, none_at alone 1, none_at alone 2)
 
   -- so it is where the elements are new at their positions
-  pub apart_alone : ((i k : ℕ) → is_at nat_cmp i k t ≡ true → set.contains (keys nat_cmp G i) k ≡ false) → IsAlone G t
+  pub apart_alone : IsApart G t → IsAlone G t
   apart_alone apart i k at = nothing (slice nat_cmp G i k) (slice-no_key total exact G i k (apart i k at)) where
     least : (b : Bool) (n : ℕ) → n ≡ 0 → cond b (2 * n) 0 ≡ 0
     least true n is = omega arith

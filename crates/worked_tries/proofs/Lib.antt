@@ -6,3 +6,6 @@ mod KeysAndPairs
 mod HoldSteps
 mod LogSteps
 mod LogBegin
+mod Marks
+mod Stars
+mod OneMore

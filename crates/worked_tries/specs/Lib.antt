@@ -1,2 +1,4 @@
 pub mod Logs
 pub mod Alone
+pub mod OneMore
+pub mod Star

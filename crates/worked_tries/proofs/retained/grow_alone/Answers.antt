@@ -8,6 +8,7 @@ use Rattle.hypertrie_model.specs.Sets.{single}
 use Rattle.trie_depth.specs.Tuples.{trip_tuple}
 use Rattle.trie_context.specs.Roots.{root_set}
 use Rattle.worked_tries.proofs.Alone.{alone_new, no_extra}
+use Rattle.worked_tries.proofs.OneMore.{has_grown}
 use Rattle.worked_tries.proofs.retained.grow_alone.Goals as goal
 
 pub grow-requires-clause-once : goal.grow-requires-clause-once
@@ -20,8 +21,13 @@ pub grow-requires-clause-size : goal.grow-requires-clause-size
 grow-requires-clause-size g c =
     let G = root_set c.args.context.now c.args.root.now in
     let t = trip_tuple c.args.triple in
-    omega (arith, c.requires.size, len-grown total exact G (single nat_cmp t) (alone_new G t c.requires.new), len-single total exact t)
+    omega (arith, c.requires.ready.size, len-grown total exact G (single nat_cmp t) (alone_new G t c.requires.new), len-single total exact t)
 
-pub returns : goal.returns
-returns g c =
-    omega (arith, c.grow.ensures.retained c.requires.only, no_extra (root_set c.args.context.now c.args.root.now) (trip_tuple c.args.triple) c.requires.alone)
+pub returns-clause-retained : goal.returns-clause-retained
+returns-clause-retained g c =
+    omega (arith, c.grow.ensures.retained c.requires.ready.only, no_extra (root_set c.args.context.now c.args.root.now) (trip_tuple c.args.triple) c.requires.alone)
+
+pub returns-clause-grown : goal.returns-clause-grown
+returns-clause-grown g c =
+    has_grown c.args.context.now c.grow.new.context c.args.root.now c.grow.new.root (trip_tuple c.args.triple) g.M.Mix.mixed c.grow.result
+    c.requires.ready.only c.grow.ensures.set c.grow.ensures.moved c.grow.ensures.counts

@@ -9,3 +9,4 @@ mod LogBegin
 mod Marks
 mod Stars
 mod OneMore
+mod Rays

@@ -9,7 +9,7 @@ use Rattle.file_model.specs.FileLines.{All, Long as long, BeginsWith, file_lines
 use Rattle.tn_io.specs.CutterState.{told, line_told, to_come, whole_to_come}
 use Rattle.tn_io.specs.declared.cutter.Cut.{Cut}
 use Rattle.tn_io.proofs.FileLemmas.{if_file_start, if_file_with, of_file_with}
-use Rattle.file_read.specs.ReaderState.{State, IsOpen, HasTold, at_start}
+use Rattle.file_read.specs.ReaderState.{ReaderState, IsOpen, HasTold, at_start}
 use Rattle.file_read.specs.ReaderCalls.{Tells, NextLine, Takes, TellsMore, EndsAt}
 use Rattle.file_read.specs.declared.reader.FileFault.TheVariants.{Read, Long}
 
@@ -61,7 +61,7 @@ front_whole files name front at is end begins = of_file_with files name end (if_
 -- Lines told
 
 -- some of the bytes ahead were cut
-pub cut_more : (s t : State) (piece : List ℕ) → piece ≡ s.ahead → (n : ℕ) (r : Option Cut) → t.ahead ≡ drop n s.ahead → t.max ≡ s.max → t.place ≡ s.place → t.ended ≡ s.ended
+pub cut_more : (s t : ReaderState) (piece : List ℕ) → piece ≡ s.ahead → (n : ℕ) (r : Option Cut) → t.ahead ≡ drop n s.ahead → t.max ≡ s.max → t.place ≡ s.place → t.ended ≡ s.ended
     → ((rest : List ℕ) → to_come s.cutter (take n piece ++ rest) ≡ told r t.cutter ++ to_come t.cutter rest)
     → ((rest : List ℕ) → whole_to_come s.cutter (take n piece ++ rest) ≡ told r t.cutter ++ whole_to_come t.cutter rest)
     → TellsMore s t (told r t.cutter)
@@ -81,14 +81,14 @@ take_front zero (x ∷ xs) ys m e = absurd (omega arith)
 take_front (suc n) (x ∷ xs) ys m e = ap (λ z. x ∷ z) (take_front n xs ys m (omega arith))
 
 -- nothing was taken
-pub takes_none : (files : Option FileMap) (name : List ℕ) (s t : State) → t ≡ s → Takes files name s t
+pub takes_none : (files : Option FileMap) (name : List ℕ) (s t : ReaderState) → t ≡ s → Takes files name s t
 takes_none files name s t same = record {
   q = [];
   still = λ taken ls h. subst (λ z. IsOpen files name t z ls) (sym (append-nil taken)) (subst (λ u. IsOpen files name u taken ls) (sym same) h);
 }
 
 -- the bytes q were taken behind the place, where none were ahead
-pub takes_more : (files : Option FileMap) (name : List ℕ) (s t : State) (q : List ℕ) → s.ahead ≡ [] → s.place ≤ s.max → t.max ≡ s.max
+pub takes_more : (files : Option FileMap) (name : List ℕ) (s t : ReaderState) (q : List ℕ) → s.ahead ≡ [] → s.place ≤ s.max → t.max ≡ s.max
     → t.cutter ≡ s.cutter → t.ahead ≡ take (s.max - s.place) q → t.ended ≡ s.ended → t.place ≡ s.place + length q
     → ((taken : List ℕ) → length taken ≡ s.place → (taken ≡ []) ⊎ OfFile files name (BeginsWith taken) → OfFile files name (BeginsWith (taken ++ q))) → Takes files name s t
 takes_more files name s t q none under max same ahead ended place more = record {
@@ -107,25 +107,25 @@ takes_more files name s t q none under max same ahead ended place more = record 
       };
 }
 
-pub takes_both : (files : Option FileMap) (name : List ℕ) (s t u : State) → Takes files name s t → Takes files name t u → Takes files name s u
+pub takes_both : (files : Option FileMap) (name : List ℕ) (s t u : ReaderState) → Takes files name s t → Takes files name t u → Takes files name s u
 takes_both files name s t u f g = record {
   q = f.q ++ g.q;
   still = λ taken ls h. subst (λ z. IsOpen files name u z ls) (append_assoc taken f.q g.q) (g.still (taken ++ f.q) ls (f.still taken ls h));
 }
 
 -- nothing was taken, and nothing told
-pub takes_same : (files : Option FileMap) (name : List ℕ) (s t : State) → TellsMore s t [] → Takes files name s t
+pub takes_same : (files : Option FileMap) (name : List ℕ) (s t : ReaderState) → TellsMore s t [] → Takes files name s t
 takes_same files name s t f = record {
   q = [];
   still = λ taken ls h. subst (λ z. IsOpen files name t z ls) (sym (append-nil taken)) (subst (λ z. IsOpen files name t taken z) (append-nil ls) (f files name taken ls h));
 }
 
-module _ (files : Option FileMap) (name : List ℕ) (s t : State) (takes : Takes files name s t) (still_open : s.ended ≡ false) where
+module _ (files : Option FileMap) (name : List ℕ) (s t : ReaderState) (takes : Takes files name s t) (still_open : s.ended ≡ false) where
   by_open : (taken : List ℕ) (ls : List Line) (P : Type 0) → (IsOpen files name t (taken ++ takes.q) ls → P) → HasTold files name s taken ls → P
   by_open taken ls P f (inl h) = f (takes.still taken ls h)
   by_open taken ls P f (inr h) = never s.ended still_open h.closed
 
-  pub next_is : (u : State) (cut : Cut) → TellsMore t u (line_told cut u.cutter ∷ []) → NextLine files name s u (Ok (Some cut))
+  pub next_is : (u : ReaderState) (cut : Cut) → TellsMore t u (line_told cut u.cutter ∷ []) → NextLine files name s u (Ok (Some cut))
   next_is u cut f = record { q = takes.q; tells = λ taken ls. by_open taken ls _ (λ h. inl (f files name (taken ++ takes.q) ls h)) }
 
   all_taken : (taken : List ℕ) (ls : List Line) → t.place ≤ t.max → IsOpen files name t (taken ++ takes.q) ls → (length (taken ++ takes.q) ≤ t.max) × (take t.max (taken ++ takes.q) ≡ taken ++ takes.q)
@@ -160,7 +160,7 @@ module _ (files : Option FileMap) (name : List ℕ) (s t : State) (takes : Takes
     tells = λ taken ls. by_open taken ls _ (λ h. too_long_here (taken ++ takes.q) ls (omega (arith, h.place)) (whole_told taken ls none left h) h.front);
   }
 
-  module _ (u : State) (none : t.ahead ≡ []) (under : t.place ≤ t.max) (at_end : EndsAt files name t.place) (max : u.max ≡ t.max) (ended : u.ended ≡ true) where
+  module _ (u : ReaderState) (none : t.ahead ≡ []) (under : t.place ≤ t.max) (at_end : EndsAt files name t.place) (max : u.max ≡ t.max) (ended : u.ended ≡ true) where
     lines_told : (taken : List ℕ) (ls more : List Line) → to_come t.cutter [] ≡ more → IsOpen files name t (taken ++ takes.q) ls → file_lines u.max (taken ++ takes.q) ≡ All (ls ++ more)
     lines_told taken ls more is h =
         let all = all_taken taken ls under h in
@@ -185,7 +185,7 @@ module _ (files : Option FileMap) (name : List ℕ) (s t : State) (takes : Takes
     }
 
 -- after the last line nothing is read
-pub ended_is : (files : Option FileMap) (name : List ℕ) (s : State) → s.ended ≡ true → NextLine files name s s (Ok None)
+pub ended_is : (files : Option FileMap) (name : List ℕ) (s : ReaderState) → s.ended ≡ true → NextLine files name s s (Ok None)
 ended_is files name s ended = record { q = []; tells = tells } where
   tells : (taken : List ℕ) (ls : List Line) → HasTold files name s taken ls → (file_lines s.max (taken ++ []) ≡ All ls) × OfFile files name (λ bytes. bytes ≡ taken ++ [])
   tells taken ls (inl h) = never s.ended h.open_yet ended
@@ -231,10 +231,10 @@ take_twice (suc m) (suc n) [] = ap (λ k. take {A = ℕ} k []) (let e : min (suc
 take_twice (suc m) (suc n) (x ∷ xs) = ap (λ k. take k (x ∷ xs)) (let e : min (suc m) (suc n) ≡ suc (min m n) = omega arith in e) ∙ ap (λ z. x ∷ z) (take_twice m n xs)
 
 -- a read put n bytes into the front of the buffer, of which the file may have so many
-pub refill_more : (files : Option FileMap) (name : List ℕ) (s v : State) → v ≡ s → (n end : ℕ) (buf all : List ℕ) → all ≡ buf → OfFile files name (λ bytes. GivesAt bytes v.place n buf) → n ≤ length buf → end ≡ min (v.max - v.place) n
+pub refill_more : (files : Option FileMap) (name : List ℕ) (s v : ReaderState) → v ≡ s → (n end : ℕ) (buf all : List ℕ) → all ≡ buf → OfFile files name (λ bytes. GivesAt bytes v.place n buf) → n ≤ length buf → end ≡ min (v.max - v.place) n
     → s.ahead ≡ [] → s.place ≤ s.max → Takes files name s (record { max = v.max; cutter = v.cutter; ahead = take (end - 0) (drop 0 all); place = v.place + n; ended = v.ended })
 refill_more files name s v is n end buf all same read within size none under =
-    let t : State = record { max = v.max; cutter = v.cutter; ahead = take (end - 0) (drop 0 all); place = v.place + n; ended = v.ended } in
+    let t : ReaderState = record { max = v.max; cutter = v.cutter; ahead = take (end - 0) (drop 0 all); place = v.place + n; ended = v.ended } in
     let ahead : take (end - 0) all ≡ take (v.max - v.place) (take n buf) = ap (take (end - 0)) same ∙ ap (λ k. take k buf) (let e : end - 0 ≡ min (v.max - v.place) n = omega arith in e) ∙ take_twice (v.max - v.place) n buf in
     let count : length (take n buf) ≡ n = omega (arith, length-take n buf) in
     subst (λ u. Takes files name u t) is (takes_more files name v t (take n buf) (ap (λ u. u.ahead) is ∙ none) (omega (arith, under, ap (λ u. u.place) is, ap (λ u. u.max) is)) refl

@@ -8,12 +8,12 @@ use Rattle.tn_io.specs.Causes.{Rose}
 use Rattle.tn_io.specs.FileFaults.{FaultCounts}
 use Rattle.tn_io.specs.CutterState.{line_told}
 use Rattle.tn_io.specs.declared.cutter.Cut.{Cut}
-use Rattle.file_read.specs.ReaderState.{State, HasTold, IsOpen}
+use Rattle.file_read.specs.ReaderState.{ReaderState, HasTold, IsOpen}
 use Rattle.file_read.specs.declared.reader.FileFault.{FileFault}
 use Rattle.file_read.specs.declared.reader.FileFault.TheVariants.{Read, Long}
 
 -- a read failed at the place behind the bytes taken, whose whole lines were all told
-pub record FailedBehind (files : Option FileMap) (name : List ℕ) (s : State) (taken : List ℕ) (told : List Line) : Type 0 where
+pub record FailedBehind (files : Option FileMap) (name : List ℕ) (s : ReaderState) (taken : List ℕ) (told : List Line) : Type 0 where
   pub place : length taken ≡ s.place
   pub within : length taken ≤ s.max
   pub front : IfFile files name (BeginsWith taken)
@@ -21,14 +21,14 @@ pub record FailedBehind (files : Option FileMap) (name : List ℕ) (s : State) (
 
 -- What a call tells beside the lines told before: one more line; that these are all; that a read failed behind the whole
 -- lines; that the file is too long, behind the lines that are whole in what it may have.
-abbrev pub Tells : Option FileMap → List ℕ → State → List ℕ → List Line → Result (Option Cut) FileFault → Type 0
+abbrev pub Tells : Option FileMap → List ℕ → ReaderState → List ℕ → List Line → Result (Option Cut) FileFault → Type 0
 Tells files name s taken told (Ok (Some cut)) = HasTold files name s taken (told ++ line_told cut s.cutter ∷ [])
 Tells files name s taken told (Ok None) = (file_lines s.max taken ≡ text.All told) × OfFile files name (λ bytes. bytes ≡ taken)
 Tells files name s taken told (Err Read) = FailedBehind files name s taken told
 Tells files name s taken told (Err Long) = (file_lines s.max taken ≡ text.Long told) × OfFile files name (λ bytes. file_lines s.max bytes ≡ text.Long told)
 
 -- A call takes the bytes q from the file, and tells the next line, whatever was told of what was taken before.
-pub record NextLine (files : Option FileMap) (name : List ℕ) (s t : State) (result : Result (Option Cut) FileFault) : Type 0 where
+pub record NextLine (files : Option FileMap) (name : List ℕ) (s t : ReaderState) (result : Result (Option Cut) FileFault) : Type 0 where
   pub q : List ℕ
   pub tells : (taken : List ℕ) (told : List Line) → HasTold files name s taken told → Tells files name t (taken ++ q) told result
 
@@ -44,12 +44,12 @@ pub record IsCounted {A : Type 0} (before now : FaultCounts) (name : List ℕ) (
   pub long : result ≡ Err Long → now ≡ before
 
 -- A read took the bytes q, and what was told was told of all bytes taken.
-pub record Takes (files : Option FileMap) (name : List ℕ) (s t : State) : Type 0 where
+pub record Takes (files : Option FileMap) (name : List ℕ) (s t : ReaderState) : Type 0 where
   pub q : List ℕ
   pub still : (taken : List ℕ) (told : List Line) → IsOpen files name s taken told → IsOpen files name t (taken ++ q) told
 
 -- of what was taken, these lines more were told
-abbrev pub TellsMore : State → State → List Line → Type 0
+abbrev pub TellsMore : ReaderState → ReaderState → List Line → Type 0
 TellsMore s t more = (files : Option FileMap) (name taken : List ℕ) (told : List Line) → IsOpen files name s taken told → IsOpen files name t taken (told ++ more)
 
 -- the file has no byte at this place

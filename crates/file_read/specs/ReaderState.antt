@@ -9,14 +9,14 @@ use Rattle.tn_io.specs.CutterState.{to_come, whole_to_come, fresh}
 
 -- max: how many bytes a file may have; cutter: what has come of the next line; ahead: the bytes that were taken and aren't
 -- cut into lines yet; place: how many bytes were taken; ended: the last line was told
-pub record State : Type 0 where
+pub record ReaderState : Type 0 where
   pub max : ℕ
   pub cutter : cutter.State
   pub ahead : List ℕ
   pub place : ℕ
   pub ended : Bool
 
-abbrev pub at_start : ℕ → State
+abbrev pub at_start : ℕ → ReaderState
 at_start max = record { max = max; cutter = fresh; ahead = []; place = 0; ended = false }
 
 -- 1 where it is not yet so
@@ -25,16 +25,16 @@ not_yet true = 0
 not_yet false = 1
 
 -- no more lines than this are still to come
-abbrev pub to_go : State → ℕ
+abbrev pub to_go : ReaderState → ℕ
 to_go s = length s.ahead + (s.max - s.place) + not_yet s.ended
 
 -- no more reads than this are still to be made
-abbrev pub to_read : State → ℕ
+abbrev pub to_read : ReaderState → ℕ
 to_read s = s.max + 1 - s.place
 
 -- The bytes taken begin the file's, and count up to the greatest number of bytes. What was told begins their lines, and
 -- the rest is still to come.
-pub record IsOpen (files : Option FileMap) (name : List ℕ) (s : State) (taken : List ℕ) (told : List Line) : Type 0 where
+pub record IsOpen (files : Option FileMap) (name : List ℕ) (s : ReaderState) (taken : List ℕ) (told : List Line) : Type 0 where
   pub open_yet : s.ended ≡ false
   pub place : length taken ≡ s.place
   pub front : (taken ≡ []) ⊎ OfFile files name (BeginsWith taken)
@@ -42,11 +42,11 @@ pub record IsOpen (files : Option FileMap) (name : List ℕ) (s : State) (taken 
   pub lines : (rest : List ℕ) → lines_of (take s.max taken ++ rest) ≡ told ++ to_come s.cutter (s.ahead ++ rest)
 
 -- the bytes taken are those of the file, and all its lines were told
-pub record IsEnded (files : Option FileMap) (name : List ℕ) (s : State) (taken : List ℕ) (told : List Line) : Type 0 where
+pub record IsEnded (files : Option FileMap) (name : List ℕ) (s : ReaderState) (taken : List ℕ) (told : List Line) : Type 0 where
   pub closed : s.ended ≡ true
   pub whole : OfFile files name (λ bytes. bytes ≡ taken)
   pub lines : file_lines s.max taken ≡ All told
 
 -- The lines told are those of the bytes taken of the file, as far as the reader has come.
-abbrev pub HasTold : Option FileMap → List ℕ → State → List ℕ → List Line → Type 0
+abbrev pub HasTold : Option FileMap → List ℕ → ReaderState → List ℕ → List Line → Type 0
 HasTold files name s taken told = IsOpen files name s taken told ⊎ IsEnded files name s taken told

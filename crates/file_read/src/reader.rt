@@ -37,9 +37,9 @@ pub struct FileReader {
 
 impl Model for FileReader {
     ghost use Rattle.std.specs.Prelude.{◌≡◌, ◌≤◌, ◌+◌, ◌-◌, ◌^◌, take, drop, vec_len};
-    ghost use Rattle.file_read.specs.ReaderState.{State};
+    ghost use Rattle.file_read.specs.ReaderState.{ReaderState};
 
-    ghost Value = { State };
+    ghost Value = { ReaderState };
 
     ghost view = { λ s. record { max = s.max; cutter = s.cutter; ahead = take (s.end - s.at) (drop s.at s.buffer.items); place = s.place; ended = s.ended } };
 

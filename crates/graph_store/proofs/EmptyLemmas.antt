@@ -14,7 +14,7 @@ use Rattle.trie_context.specs.RowLaws.{empty_at}
 use Rattle.graph_image.specs.Images.{graph_of, terms_of, HasExactly}
 use Rattle.graph_image.specs.ImageLaws.{graph_of-empty}
 use Rattle.graph_image.specs.TermLaws.{term_in}
-use Rattle.graph_store.specs.State.{IsSound}
+use Rattle.graph_store.specs.StoreState.{IsSoundStore}
 
 no_holds : (d r : ℕ) → holds_of no_tables d r ≡ 0
 no_holds d r =
@@ -24,7 +24,7 @@ no_holds d r =
 none_in : (t : Triple) → set.contains (set.empty {R = triple_cmp}) t ≡ true → ⊥
 none_in t e = let f : false ≡ true = sym (set.contains-empty triple_cmp t) ∙ e in cc
 
-pub empty_sound : (terms : Terms) → IsSound terms no_tables Empty 10000000
+pub empty_sound : (terms : Terms) → IsSoundStore terms no_tables Empty 10000000
 empty_sound terms = record {
   only = no_holds;
   known = λ t e. absurd (let f : false ≡ true = sym (set.contains-empty (slice_cmp nat_cmp) t) ∙ e in let g : ⊥ = cc in g);

@@ -23,7 +23,7 @@ use Rattle.graph_image.specs.TermLaws.{term_in}
 use Rattle.graph_image.specs.ImageLaws.{tuples_total, get_is, term_is, in_graph, known_within, known_difference, graph_of-difference}
 use Rattle.graph_image.specs.DictLaws.{AgreeOnUsed, known_same, graph_same, used_s, used_p, used_o}
 use Rattle.ntriples_model.specs.Proper.{AreProper}
-use Rattle.graph_store.specs.State.{IsSound}
+use Rattle.graph_store.specs.StoreState.{IsSoundStore}
 use Rattle.graph_store.specs.Forgotten.{Forgets}
 use Rattle.graph_store.proofs.NotedLemmas.{among-append}
 use Rattle.graph_store.proofs.StagingLemmas.{used_term}
@@ -81,7 +81,7 @@ known_terms terms H known x e =
       | inr (inr a) ↦ (k.o, used_o terms H v.member v.there k, get_is terms k.o k.object ∙ ap (λ (q : Triple). Some q.o) is ∙ ap Some (sym a))
     ]
 
-module _ (d : Terms) (t : Tables) (r : Root) (max : ℕ) (marked : IdSet) (sound : IsSound d t r max) (one : IsOneToOne d) (settled : HasExactly d (terms_of (graph_of d (root_set t r)))) (there : IsChange false (root_set t r) marked) where
+module _ (d : Terms) (t : Tables) (r : Root) (max : ℕ) (marked : IdSet) (sound : IsSoundStore d t r max) (one : IsOneToOne d) (settled : HasExactly d (terms_of (graph_of d (root_set t r)))) (there : IsChange false (root_set t r) marked) where
   abbrev H : IdSet
   H = root_set t r
 
@@ -152,7 +152,7 @@ module _ (d : Terms) (t : Tables) (r : Root) (max : ℕ) (marked : IdSet) (sound
       pub deleted_settled : HasExactly new (terms_of (graph_of new (root_set u q)))
       deleted_settled = subst (λ K. HasExactly new (terms_of (graph_of new K))) (sym left) left_settled
 
-      pub deleted_sound : IsSound new u q max
+      pub deleted_sound : IsSoundStore new u q max
       deleted_sound = record {
         only = only;
         known = subst (AreKnown new) (sym left) left_known;

@@ -3,7 +3,7 @@ use Rattle.std.proofs.Common.{◌≡◌, ◌∙◌, ◌+◌, ◌<◌, ◌≤◌,
 use Rattle.std.specs.FinSet as set
 use Rattle.rdf_model.specs.Terms.{Triple}
 use Rattle.rdf_model.specs.Graph.{Graph}
-use Rattle.graph_store.specs.State.{State, graph}
+use Rattle.graph_store.specs.StoreState.{StoreState, graph}
 use Rattle.graph_store.specs.Staging.{Staging, staged_graph, IsFull}
 use Rattle.graph_store.proofs.TermsLemmas.{insert_member}
 
@@ -18,6 +18,6 @@ there_already G S t e = by (set.contains G t) e where
   by true e = refl
   by false e = sym (insert_member S t e)
 
-module _ (s : State) (b : Staging) (t : Triple) where
+module _ (s : StoreState) (b : Staging) (t : Triple) where
   pub new_full : (set.contains (graph s) t || set.contains (staged_graph s b) t) ≡ false → s.max ≤ set.len (graph s) + set.len (staged_graph s b) → IsFull s b t
   new_full e most = let n = none_of_both (set.contains (graph s) t) (set.contains (staged_graph s b) t) e in inr (n.0, n.1, most)

@@ -28,7 +28,7 @@ use Rattle.graph_image.specs.TermLaws.{IsTermOf, term_in, in_terms, len-terms, l
 use Rattle.graph_image.specs.ImageLaws.{tuples_total, tuples_exact, get_is, graph_in, known_union, known_insert, graph_of-insert, graph_of-union, len-graph_of}
 use Rattle.graph_image.specs.DictLaws.{AgreeOnUsed, known_same, graph_same, extends_agree, without_agree, get-without, among_known, known_there}
 use Rattle.ntriples_model.specs.Proper.{IsProperTriple, AreProper}
-use Rattle.graph_store.specs.State.{State, IsSound, most_triples}
+use Rattle.graph_store.specs.StoreState.{StoreState, IsSoundStore, most_triples}
 use Rattle.graph_store.specs.Staging.{Staging, numbers, AreDistinct, Fits}
 use Rattle.graph_store.specs.Noted.{Grows, HasIds, with_terms}
 use Rattle.graph_store.proofs.NotedLemmas.{numbers-append, among-append, distinct-append}
@@ -64,7 +64,7 @@ not_false b false e f = absurd (let g : true ≡ false = sym e ∙ f in let h : 
 
 -- ---- a store that the staged triples fit
 
-module _ (d : Terms) (t : Tables) (r : Root) (max : ℕ) (b : Staging) (sound : IsSound d t r max) (fits : Fits (record { dict = d; tables = t; root = r; max = max }) b) where
+module _ (d : Terms) (t : Tables) (r : Root) (max : ℕ) (b : Staging) (sound : IsSoundStore d t r max) (fits : Fits (record { dict = d; tables = t; root = r; max = max }) b) where
   abbrev H : IdSet
   H = root_set t r
 
@@ -101,7 +101,7 @@ module _ (d : Terms) (t : Tables) (r : Root) (max : ℕ) (b : Staging) (sound : 
   pub before_graph : graph_of (without d b.added) H ≡ G
   before_graph = graph_same d (without d b.added) H sound.known agree
 
-  pub before_sound : IsSound (without d b.added) t r max
+  pub before_sound : IsSoundStore (without d b.added) t r max
   before_sound = record {
     only = sound.only;
     known = known_same d (without d b.added) H sound.known agree;
@@ -131,7 +131,7 @@ module _ (d : Terms) (t : Tables) (r : Root) (max : ℕ) (b : Staging) (sound : 
     pub put_graph : graph_of d (root_set u q) ≡ set.union G S
     put_graph = ap (graph_of d) put ∙ graph_of-union d H b.triples
 
-    pub put_sound : IsOneToOne d → IsSound d u q max
+    pub put_sound : IsOneToOne d → IsSoundStore d u q max
     put_sound one = record {
       only = only;
       known = subst (AreKnown d) (sym put) (known_union d H b.triples sound.known fits.known);
@@ -161,7 +161,7 @@ module _ (d : Terms) (t : Tables) (r : Root) (max : ℕ) (b : Staging) (sound : 
     pub grown_staged : graph_of e b.triples ≡ S
     grown_staged = graph_same d e b.triples fits.known same_B
 
-    pub grown_sound : IsSound e t r max
+    pub grown_sound : IsSoundStore e t r max
     grown_sound = record {
       only = sound.only;
       known = known_same d e H sound.known same_H;
@@ -269,5 +269,5 @@ module _ (d : Terms) (t : Tables) (r : Root) (max : ℕ) (b : Staging) (sound : 
           }
 
 -- the same of what contracts see
-pub fits_back : (s u : State) (b c : Staging) → u ≡ s → c ≡ b → Fits s b → Fits u c
+pub fits_back : (s u : StoreState) (b c : Staging) → u ≡ s → c ≡ b → Fits s b → Fits u c
 fits_back s u b c same staged fits = subst (λ x. Fits x c) (sym same) (subst (Fits s) (sym staged) fits)

@@ -36,11 +36,11 @@ use Rattle.trie_context.specs.MoveLaws.{held_there}
 use Rattle.graph_view.specs.Read.{has_id}
 use Rattle.graph_view.specs.ReadLaws.{known_ids}
 use Rattle.graph_lines.proofs.RowLemmas.{lone_ids, tuples_read}
-use Rattle.graph_store.specs.State.{State, graph, triples_of, IsSound}
+use Rattle.graph_store.specs.StoreState.{StoreState, graph, triples_of, IsSoundStore}
 use Rattle.graph_store.specs.Stands.{row_tuples, IsMany, Stands}
 use Rattle.graph_store.proofs.RootLemmas.{root_held}
 
-module _ (mixed : ℕ → ℕ → ℕ → ℕ → ℕ) (s : State) (kept : AreKept mixed s.tables) (sound : IsSound s.dict s.tables s.root s.max) (lone : IsOneToOne s.dict) where
+module _ (mixed : ℕ → ℕ → ℕ → ℕ → ℕ) (s : StoreState) (kept : AreKept mixed s.tables) (sound : IsSoundStore s.dict s.tables s.root s.max) (lone : IsOneToOne s.dict) where
   pub has_shape : HasShape s.tables (triples_of s)
   has_shape = root_shape mixed s.tables kept s.root sound.only
 
@@ -94,7 +94,7 @@ len-tuples : (G : Graph) → set.len (tuples_of G) ≡ set.len G
 unfolding triple_back
 len-tuples G = len-image triples_total exact_triples (lists_total terms_total) (slice_cmp-IsAntisymmetric exact_terms) tuple_of G (λ t there u other alike. ap triple_back alike)
 
-module _ (mixed : ℕ → ℕ → ℕ → ℕ → ℕ) (s : State) (stands : Stands mixed s) where
+module _ (mixed : ℕ → ℕ → ℕ → ℕ → ℕ) (s : StoreState) (stands : Stands mixed s) where
   rows : (d : ℕ) → ℕ
   rows d = map.len (rows_at s.tables d)
 

@@ -1,4 +1,4 @@
-pub mod State
+pub mod StoreState
 pub mod Stands
 pub mod Staging
 pub mod Retained

@@ -3,14 +3,14 @@ use Rattle.std.specs.Prelude.{ℕ, ◌+◌, ◌≤◌}
 use Rattle.std.specs.FinSet as set
 use Rattle.hypertrie_model.specs.IdSets.{IdSet}
 use Rattle.trie_update.specs.Retained.{most_retained}
-use Rattle.graph_store.specs.State.{State, triples_of}
+use Rattle.graph_store.specs.StoreState.{StoreState, triples_of}
 use Rattle.graph_store.specs.Staging.{Staging}
 
 -- the most edges that the staged triples retain where they are put in, and marked ones where they are taken out
-abbrev pub insert_retains : State → Staging → ℕ
+abbrev pub insert_retains : StoreState → Staging → ℕ
 insert_retains s b = most_retained (triples_of s) (set.union (triples_of s) b.triples) (set.len b.triples)
 
-abbrev pub delete_retains : State → IdSet → ℕ
+abbrev pub delete_retains : StoreState → IdSet → ℕ
 delete_retains s marked = most_retained (triples_of s) (set.difference (triples_of s) marked) (set.len marked)
 
 -- triples that are put into a graph retain no more from one count to another

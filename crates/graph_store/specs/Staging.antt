@@ -11,7 +11,7 @@ use Rattle.rdf_model.specs.Graph.{Graph}
 use Rattle.trie_depth.specs.declared.id.Id.{Id}
 use Rattle.graph_image.specs.Images.{graph_of, terms_of, AreKnown, HasExactly, IsUsed, is_among, without}
 use Rattle.ntriples_model.specs.Proper.{AreProper}
-use Rattle.graph_store.specs.State.{State, triples_of, graph, most_triples}
+use Rattle.graph_store.specs.StoreState.{StoreState, triples_of, graph, most_triples}
 
 -- the staged triples, and the Ids of the terms that were added for them
 pub record Staging : Type 0 where
@@ -28,7 +28,7 @@ abbrev pub numbers : List Id → List ℕ
 numbers ids = map_list (λ id. id.0) ids
 
 -- the staged triples as a graph
-abbrev pub staged_graph : State → Staging → Graph
+abbrev pub staged_graph : StoreState → Staging → Graph
 staged_graph s b = graph_of s.dict b.triples
 
 -- the staged triples with one more, unless the graph has it
@@ -36,11 +36,11 @@ abbrev pub with_new : Graph → Graph → Triple → Graph
 with_new G staged t = if set.contains G t then staged else set.insert staged t
 
 -- one triple more is staged, unless the graph has it
-abbrev pub StagesOne : State → Staging → State → Staging → Triple → Type 0
+abbrev pub StagesOne : StoreState → Staging → StoreState → Staging → Triple → Type 0
 StagesOne s b t c triple = staged_graph t c ≡ with_new (graph s) (staged_graph s b) triple
 
 -- whether the graph or the staged triples have the triple
-abbrev pub is_held : State → Staging → Triple → Bool
+abbrev pub is_held : StoreState → Staging → Triple → Bool
 is_held s b triple = set.contains (graph s) triple || set.contains (staged_graph s b) triple
 
 -- no Id stands twice in the list
@@ -57,7 +57,7 @@ abbrev pub HasOnlyUsed : List ℕ → IdSet → Type 0
 HasOnlyUsed ids H = (id : ℕ) → is_among ids id ≡ true → IsUsed H id
 
 -- the staged triples are some that this store may put in
-pub record Fits (s : State) (b : Staging) : Type 0 where
+pub record Fits (s : StoreState) (b : Staging) : Type 0 where
   -- the dictionary has their Ids
   pub known : AreKnown s.dict b.triples
   pub proper : AreProper (staged_graph s b)
@@ -72,16 +72,16 @@ pub record Fits (s : State) (b : Staging) : Type 0 where
   pub few : set.len (graph s) + set.len (staged_graph s b) ≤ most_triples
 
 -- the store before anything was staged: the added terms are out again
-abbrev pub before : State → Staging → State
+abbrev pub before : StoreState → Staging → StoreState
 before s b = record s { dict = without s.dict b.added }
 
 -- there is no place for the triple: the graph alone has more than it may have, or the triple is new and the graph and the staged triples
 -- are together as many as it may have
-abbrev pub IsFull : State → Staging → Triple → Type 0
+abbrev pub IsFull : StoreState → Staging → Triple → Type 0
 IsFull s b t = (s.max < set.len (graph s)) ⊎ ((set.contains (graph s) t ≡ false) × (set.contains (staged_graph s b) t ≡ false) × (s.max ≤ set.len (graph s) + set.len (staged_graph s b)))
 
 -- the graph has each of the marked triples
-abbrev pub AreMarked : State → IdSet → Type 0
+abbrev pub AreMarked : StoreState → IdSet → Type 0
 AreMarked s marked = IsChange false (triples_of s) marked
 
 -- the marked triples with one more, if the graph has it
@@ -89,9 +89,9 @@ abbrev pub with_marked : Graph → Graph → Triple → Graph
 with_marked G marked t = if set.contains G t then set.insert marked t else marked
 
 -- the marked triples as a graph
-abbrev pub marked_graph : State → IdSet → Graph
+abbrev pub marked_graph : StoreState → IdSet → Graph
 marked_graph s marked = graph_of s.dict marked
 
 -- one triple more is marked, if the graph has it
-abbrev pub MarksOne : State → IdSet → IdSet → Triple → Type 0
+abbrev pub MarksOne : StoreState → IdSet → IdSet → Triple → Type 0
 MarksOne s marked more triple = marked_graph s more ≡ with_marked (graph s) (marked_graph s marked) triple

@@ -9,19 +9,19 @@ use Rattle.rdf_model.specs.Graph.{triple_cmp, triples_total, exact_triples}
 use Rattle.graph_image.specs.Images.{terms_of, HasExactly}
 use Rattle.graph_image.specs.ImageLaws.{graph_of-empty}
 use Rattle.graph_image.specs.DictLaws.{without-none}
-use Rattle.graph_store.specs.State.{State, graph, IsSettled, most_triples}
+use Rattle.graph_store.specs.StoreState.{StoreState, graph, IsSettled, most_triples}
 use Rattle.graph_store.specs.Staging.{nothing_staged, staged_graph, Fits, before, AreMarked}
 
 nothing_there : (b : Bool) → b ≡ false → b ≡ true → ⊥
 nothing_there b e f = let g : false ≡ true = sym e ∙ f in cc
 
-none_staged : (s : State) → staged_graph s nothing_staged ≡ set.empty
+none_staged : (s : StoreState) → staged_graph s nothing_staged ≡ set.empty
 none_staged s = graph_of-empty s.dict
 
-same_graph : (s : State) → set.union (graph s) (staged_graph s nothing_staged) ≡ graph s
+same_graph : (s : StoreState) → set.union (graph s) (staged_graph s nothing_staged) ≡ graph s
 same_graph s = ap (set.union (graph s)) (none_staged s) ∙ union_empty triples_total exact_triples (graph s)
 
-pub fits_nothing : (s : State) → IsSettled s → set.len (graph s) ≤ most_triples → Fits s nothing_staged
+pub fits_nothing : (s : StoreState) → IsSettled s → set.len (graph s) ≤ most_triples → Fits s nothing_staged
 fits_nothing s settled few = record {
   known = λ t e. absurd (nothing_there _ (set.contains-empty (slice_cmp nat_cmp) t) e);
   proper = λ t e. absurd (nothing_there _ (ap (λ G. set.contains G t) (none_staged s) ∙ set.contains-empty triple_cmp t) e);
@@ -35,8 +35,8 @@ fits_nothing s settled few = record {
       omega (arith, n, few);
 }
 
-pub before_nothing : (s : State) → before s nothing_staged ≡ s
+pub before_nothing : (s : StoreState) → before s nothing_staged ≡ s
 before_nothing s i = record { dict = without-none s.dict i; tables = s.tables; root = s.root; max = s.max }
 
-pub marked_nothing : (s : State) → AreMarked s set.empty
+pub marked_nothing : (s : StoreState) → AreMarked s set.empty
 marked_nothing s t e = absurd (nothing_there _ (set.contains-empty (slice_cmp nat_cmp) t) e)

@@ -13,14 +13,14 @@ use Rattle.trie_context.specs.declared.root.Root.{Root}
 use Rattle.trie_context.specs.declared.root.Root.TheVariants.{Empty, One, Many}
 use Rattle.trie_context.specs.Rows.{row_of, set_of}
 use Rattle.trie_context.specs.Kept.{AreKept}
-use Rattle.graph_store.specs.State.{State, graph}
+use Rattle.graph_store.specs.StoreState.{StoreState, graph}
 
 -- the set of the row of a depth with this number, read through the dictionary
-abbrev pub row_tuples : State → ℕ → ℕ → TupleSet term_cmp
+abbrev pub row_tuples : StoreState → ℕ → ℕ → TupleSet term_cmp
 row_tuples s d r = tuple_image term_cmp (term_at s.dict) (set_of s.tables d r)
 
 -- a row of the tables with these tuples of terms and this count
-pub record HasRow (s : State) (d : ℕ) (T : TupleSet term_cmp) (n : ℕ) : Type 0 where
+pub record HasRow (s : StoreState) (d : ℕ) (T : TupleSet term_cmp) (n : ℕ) : Type 0 where
   pub number : ℕ
   pub row : Row Node
   pub there : row_of s.tables d number ≡ Some row
@@ -34,7 +34,7 @@ IsMany (One triple) = ⊥
 IsMany (Many row) = Unit {0}
 
 -- by the mix that the store hashes with
-pub record Stands (mixed : ℕ → ℕ → ℕ → ℕ → ℕ) (s : State) : Type 0 where
+pub record Stands (mixed : ℕ → ℕ → ℕ → ℕ → ℕ) (s : StoreState) : Type 0 where
   -- the tables are kept: each set stands once, and is counted as often as something leads to it
   pub kept : AreKept mixed s.tables
   -- each row, with its tuples and its count, is one of the shape of the graph

@@ -1,5 +1,5 @@
 //! The store of a graph: a hypertrie over Ids, with a dictionary of terms, changed by batches of triples. Contracts see
-//! it as a graph of RDF, a set of triples of terms (`specs/State.antt`).
+//! it as a graph of RDF, a set of triples of terms (`specs/StoreState.antt`).
 //!
 //! A batch is staged triple by triple, which may add terms to the dictionary, and then put in as a whole, or abandoned
 //! with the terms that it added (`specs/Staging.antt`). Triples that are to go are marked first, and deleted together. The

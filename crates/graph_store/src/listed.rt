@@ -5,7 +5,7 @@ ghost use Rattle.query_plan.specs.Seen.{query_seen};
 ghost use Rattle.solution_model.specs.Rows.{column_labels};
 ghost use Rattle.graph_view.specs.Views.{graph_in};
 ghost use Rattle.graph_listing.specs.Wholes.{GivesAnswers};
-ghost use Rattle.graph_store.specs.State.{graph};
+ghost use Rattle.graph_store.specs.StoreState.{graph};
 
 use crate::store::Store;
 use graph_listing::Listing;

@@ -2,7 +2,7 @@
 ghost use Rattle.std.specs.Prelude.{◌≡◌, IfOk};
 ghost use Rattle.rdf_model.specs.Dumps.{AreDumpLines, dump_lines};
 ghost use Rattle.graph_shape.specs.GraphShapes.{figures_of, shape_lines as lines_of_shape};
-ghost use Rattle.graph_store.specs.State.{graph, IsSettled};
+ghost use Rattle.graph_store.specs.StoreState.{graph, IsSettled};
 
 use crate::store::Store;
 use graph_lines as lines;
@@ -28,6 +28,7 @@ impl<M: Mix> Store<M> {
         ensures two { result.two ≡ (figures_of (graph self.now)).two }
         ensures one { result.one ≡ (figures_of (graph self.now)).one }
     {
+        self.stands();
         let all = self.view().all;
         Stats {
             triples: self.triples(),

@@ -5,8 +5,9 @@ ghost use Rattle.rdf_term.specs.Seen.{lent_triple};
 ghost use Rattle.hypertrie_model.specs.Changes.{IsChange};
 ghost use Rattle.trie_context.specs.Roots.{root_set};
 ghost use Rattle.trie_context.specs.RootShape.{OnlyRootHeld};
+ghost use Rattle.trie_update.specs.Changed.{IsAsBefore};
 ghost use Rattle.ntriples_model.specs.Proper.{IsProperTriple};
-ghost use Rattle.graph_store.specs.State.{graph, most_triples, IsSettled};
+ghost use Rattle.graph_store.specs.StoreState.{graph, most_triples, IsSettled};
 ghost use Rattle.graph_store.specs.Staging.{nothing_staged, staged_graph, is_held, StagesOne, Fits, before, IsFull};
 ghost use Rattle.graph_store.specs.Retained.{insert_retains};
 ghost use Rattle.graph_store.specs.declared.staged.StageFault.TheVariants as fault;
@@ -203,13 +204,11 @@ fn put_in<M: Mix, W: Ledger, V: Ledger>(
     ensures set { OnOk result (root_set context.new root.new ≡ set.union (root_set context.old root.old) trips) }
     ensures only { OnlyRootHeld context.new root.new }
     ensures changed { IfOk result (λ n. n ≡ set.len trips) }
-    ensures tables { OnErr result (context.new ≡ context.old) }
-    ensures root { OnErr result (root.new ≡ root.old) }
+    ensures kept { OnErr result (IsAsBefore context.old context.new root.old root.new) }
     ensures ticks { interns.new ≤ interns.old + (9 * set.len trips + 10) }
     ensures retained { PutRetains (root_set context.old root.old) trips retains.old retains.new }
 {
-    // This call tells the proof that the tables are kept.
-    context.tables();
+    context.is_kept();
     let batch = trips.listed(alloc)?;
     grow(alloc, context, root, &batch, interns, retains)?;
     Ok(batch.len() as u64)

@@ -8,7 +8,7 @@ ghost use Rattle.term_dict.specs.Dict.{IsOneToOne};
 ghost use Rattle.ntriples_model.specs.Proper.{AreProper};
 ghost use Rattle.graph_image.specs.Images.{AreKnown};
 ghost use Rattle.graph_view.specs.Views.{triples_in};
-ghost use Rattle.graph_store.specs.State.{graph, triples_of, most_triples, IsSettled};
+ghost use Rattle.graph_store.specs.StoreState.{graph, triples_of, most_triples, IsSettled};
 ghost use Rattle.graph_store.specs.Stands.{Stands};
 
 use graph_view::GraphView;
@@ -34,15 +34,15 @@ pub struct Store<M: Mix> {
 }
 
 impl<M: Mix> Model for Store<M> {
-    ghost use Rattle.graph_store.specs.State.{State, state_code, IsSound};
+    ghost use Rattle.graph_store.specs.StoreState.{StoreState, state_code, IsSoundStore};
 
-    ghost Value = { State };
+    ghost Value = { StoreState };
 
     ghost coded = { state_code };
 
     ghost view = { λ s. record { dict = s.dict; tables = s.ctx; root = s.root; max = s.max } };
 
-    ghost invariant = { λ s. IsSound s.dict s.ctx s.root s.max };
+    ghost invariant = { λ s. IsSoundStore s.dict s.ctx s.root s.max };
 }
 
 impl<M: Mix> Store<M> {
@@ -82,13 +82,20 @@ impl<M: Mix> Store<M> {
         self.max = max;
     }
 
+    /// What holds of every store.
+    pub fn stands(&self)
+        ensures few { set.len (graph self.now) ≤ most_triples }
+        ensures limit { self.now.max ≤ most_triples }
+        ensures proper { AreProper (graph self.now) }
+        ensures stands { Stands M.mixed self.now }
+    {
+        let _graph = GraphView::of(&self.ctx, &self.root, &self.dict);
+    }
+
     /// The number of triples.
     pub fn triples(&self) -> u64
         ensures value { result ≡ set.len (graph self.now) }
         ensures few { result ≤ most_triples }
-        ensures limit { self.now.max ≤ most_triples }
-        ensures proper { AreProper (graph self.now) }
-        ensures stands { Stands M.mixed self.now }
     {
         GraphView::of(&self.ctx, &self.root, &self.dict).len()
     }

@@ -12,11 +12,13 @@ ghost use Rattle.trie_view.specs.Subs.{sub_depth, sub_set};
 ghost use Rattle.graph_image.specs.Images.{is_among, IsUsed};
 ghost use Rattle.graph_view.specs.Read.{set_in};
 ghost use Rattle.graph_store.specs.Retained.{delete_retains};
-ghost use Rattle.graph_store.specs.State.{graph, most_triples, IsSettled};
+ghost use Rattle.graph_store.specs.StoreState.{graph, most_triples, IsSettled};
 ghost use Rattle.graph_store.specs.Staging.{marked_graph, MarksOne, AreMarked, numbers, AreDistinct};
 ghost use Rattle.graph_store.specs.Forgotten.{Forgets};
 ghost use Rattle.trie_change.specs.After.{without_batch};
-ghost use Rattle.trie_update.specs.Retained.{shrink_retains};
+ghost use Rattle.trie_change.specs.declared.change.Change.{Change};
+ghost use Rattle.trie_update.specs.Changed.{IsAsBefore};
+ghost use Rattle.trie_update.specs.Retained.{change_retains};
 
 use crate::ids::ids_in;
 use crate::look_up::{has, is_used};
@@ -133,13 +135,11 @@ fn take_out<M: Mix, W: Ledger, V: Ledger>(
     requires few { set.len (root_set context.old root.old) ≤ most_triples }
     ensures set { OnOk result (root_set context.new root.new ≡ without_batch context.old root.old batch.now) }
     ensures only { OnlyRootHeld context.new root.new }
-    ensures tables { OnErr result (context.new ≡ context.old) }
-    ensures root { OnErr result (root.new ≡ root.old) }
+    ensures kept { OnErr result (IsAsBefore context.old context.new root.old root.new) }
     ensures ticks { interns.new ≤ interns.old + (9 * set.len (set_of_entries trip_tuple batch.now) + 10) }
-    ensures retained { retains.new ≤ retains.old + shrink_retains context.old root.old batch.now }
+    ensures retained { retains.new ≤ retains.old + change_retains Change.Shrink context.old root.old batch.now }
 {
-    // This call tells the proof that the tables are kept.
-    context.tables();
+    context.is_kept();
     shrink(alloc, context, root, batch, interns, retains)
 }
 

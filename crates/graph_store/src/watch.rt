@@ -4,7 +4,7 @@ ghost use Rattle.std.specs.declared.option.Option.{Option};
 ghost use Rattle.std.specs.Option.{is_some};
 ghost use Rattle.rdf_model.specs.Terms.{Text};
 ghost use Rattle.rdf_model.specs.Dumps.{dump_lines};
-ghost use Rattle.graph_store.specs.State.{IsSettled, graph};
+ghost use Rattle.graph_store.specs.StoreState.{IsSettled, graph};
 ghost use Rattle.graph_store.specs.Watching.{IsShown};
 
 use crate::store::Store;

@@ -10,7 +10,7 @@ use Rattle.script_model.specs.Commands as script
 use Rattle.run_model.specs.Answers as answers
 use Rattle.run_model.specs.Sayings.{Saying, triples_said, triples_of, is_over, refusal_at}
 use Rattle.run_model.proofs.RefusalLaws.{triples_of-push}
-use Rattle.graph_store.specs.State.{State, graph, IsSettled, most_triples}
+use Rattle.graph_store.specs.StoreState.{StoreState, graph, IsSettled, most_triples}
 use Rattle.graph_store.specs.Staging.{Staging, nothing_staged, staged_graph, Fits, before, IsFull, AreMarked, marked_graph}
 use Rattle.graph_store.specs.StagingLaws.{fits_nothing, before_nothing, marked_nothing}
 use Rattle.answer_text.specs.declared.Refusal.{Refusal}
@@ -19,14 +19,14 @@ use Rattle.answer_text.specs.Seen.{refusal_of}
 use Rattle.line_batch.specs.declared.batch.Batch.{Batch}
 use Rattle.line_batch.specs.declared.batch.Batch.TheVariants.{Inserts, Deletes, Refused}
 use Rattle.line_batch.specs.Batches.{batch_refusal, IsCause, IsBatch, IsReady, HasOneMore, AreStaged, AreToGo, done, refused, no_memory, ChangesStore}
-use Rattle.line_batch.specs.Sound.{IsSound}
+use Rattle.line_batch.specs.Sound.{IsBetweenCommands}
 use Rattle.line_batch.proofs.GraphLemmas.{lacked, had, lacked-none, had-none, lacked-push, had-push, union-lacked, difference-had}
 use Rattle.line_batch.proofs.RefusalLemmas.{refusal-front, refusal-push}
 use Rattle.line_batch.proofs.FullLemmas.{HasRoomFor, IsFullFor, over_alone, not_over_alone, full_over, not_full_over}
 
 -- ---- why a line can't be carried out
 
-module _ (s : State) (change : script.Change) (body : List Saying) (l : Saying) (good : batch_refusal s change body ≡ None) where
+module _ (s : StoreState) (change : script.Change) (body : List Saying) (l : Saying) (good : batch_refusal s change body ≡ None) where
   decided : batch_refusal s change (body ++ l ∷ []) ≡ refusal_at change s.max (graph s) (triples_of body) (1 + length body) l
   decided = refusal-push change s.max (graph s) [] 1 body l good
 
@@ -47,7 +47,7 @@ module _ (s : State) (change : script.Change) (body : List Saying) (l : Saying) 
     triples_more = triples_of-push body l ∙ ap (λ o. triples_of body ++ triples_said o) said
 
 -- a refused block stays refused
-pub cause_stays : (s : State) (change : script.Change) (body : List Saying) (l : Saying) (r : Refusal) → IsCause s change body r → IsCause s change (body ++ l ∷ []) r
+pub cause_stays : (s : StoreState) (change : script.Change) (body : List Saying) (l : Saying) (r : Refusal) → IsCause s change body r → IsCause s change (body ++ l ∷ []) r
 cause_stays s change body l (cause.Line n) h = refusal-front change s.max (graph s) [] 1 (answers.BadLine n) body (l ∷ []) h
 cause_stays s change body l (cause.Full n) h = refusal-front change s.max (graph s) [] 1 (answers.FullAt n) body (l ∷ []) h
 cause_stays s change body l cause.Memory h = h
@@ -61,7 +61,7 @@ cause_stays s change body l cause.Unended h = h
 
 -- ---- lines that are staged
 
-module _ (s : State) (body : List Saying) (old : State) (b : Staging) (h : AreStaged s body old b) where
+module _ (s : StoreState) (body : List Saying) (old : StoreState) (b : Staging) (h : AreStaged s body old b) where
   same_max : old.max ≡ s.max
   same_max = ap (λ z. z.max) h.start
 
@@ -113,7 +113,7 @@ module _ (s : State) (body : List Saying) (old : State) (b : Staging) (h : AreSt
     triple_full number n full = full_line s script.Inserts body l h.good (Some t) said number n (full_over s.max (graph s) (triples_of body) t (full_for full))
 
     -- a triple that is staged
-    pub triple_staged : (new : State) (c : Staging) → (IsFull old b t → ⊥) → Fits new c → before new c ≡ before old b → graph new ≡ graph old
+    pub triple_staged : (new : StoreState) (c : Staging) → (IsFull old b t → ⊥) → Fits new c → before new c ≡ before old b → graph new ≡ graph old
         → staged_graph new c ≡ (if set.contains (graph old) t then staged_graph old b else set.insert (staged_graph old b) t) → AreStaged s (body ++ l ∷ []) new c
     triple_staged new c free fits start same staged =
         let more = not_full_over s.max (graph s) (triples_of body) t room (λ f. free (full_of f)) in
@@ -133,7 +133,7 @@ module _ (s : State) (body : List Saying) (old : State) (b : Staging) (h : AreSt
 
 -- ---- lines that are marked
 
-module _ (s : State) (body : List Saying) (taken : IdSet) (h : AreToGo s body taken) where
+module _ (s : StoreState) (body : List Saying) (taken : IdSet) (h : AreToGo s body taken) where
   pub note_marked : (l : Saying) → l ≡ Some None → AreToGo s (body ++ l ∷ []) taken
   note_marked l said = record {
     there = h.there;
@@ -153,14 +153,14 @@ module _ (s : State) (body : List Saying) (taken : IdSet) (h : AreToGo s body ta
 
 -- ---- what lines do
 
-module _ (mixed : ℕ → ℕ → ℕ → ℕ → ℕ) (s : State) (change : script.Change) (body : List Saying) (sound : IsSound mixed s) where
-  pub lack_memory : (t : State) → t ≡ s → ChangesStore mixed s change body t (answers.Refused answers.NoMemory)
+module _ (mixed : ℕ → ℕ → ℕ → ℕ → ℕ) (s : StoreState) (change : script.Change) (body : List Saying) (sound : IsBetweenCommands mixed s) where
+  pub lack_memory : (t : StoreState) → t ≡ s → ChangesStore mixed s change body t (answers.Refused answers.NoMemory)
   lack_memory t is = subst (λ z. ChangesStore mixed s change body z (answers.Refused answers.NoMemory)) (sym is) (record { changes = no_memory; refused = λ _. refl; sound = sound; max = refl })
 
   refused_by : (r : answers.Refusal) → batch_refusal s change body ≡ Some r → ChangesStore mixed s change body s (answers.Refused r)
   refused_by r e = record { changes = refused r e; refused = λ _. refl; sound = sound; max = refl }
 
-  pub refused_batch : (t : State) (r : Refusal) → t ≡ s → IsCause s change body r → ChangesStore mixed s change body t (answers.Refused (refusal_of r))
+  pub refused_batch : (t : StoreState) (r : Refusal) → t ≡ s → IsCause s change body r → ChangesStore mixed s change body t (answers.Refused (refusal_of r))
   refused_batch t r is h = subst (λ z. ChangesStore mixed s change body z (answers.Refused (refusal_of r))) (sym is) (by r h) where
     by : (r : Refusal) → IsCause s change body r → ChangesStore mixed s change body s (answers.Refused (refusal_of r))
     by (cause.Line n) h = refused_by (answers.BadLine n) h
@@ -174,8 +174,8 @@ module _ (mixed : ℕ → ℕ → ℕ → ℕ → ℕ) (s : State) (change : scr
     by cause.Size h = absurd h
     by cause.Unended h = absurd h
 
-pub inserted : {mixed : ℕ → ℕ → ℕ → ℕ → ℕ} (s : State) (body : List Saying) (old : State) (b : Staging) (t : State) (changed now : ℕ) → AreStaged s body old b
-    → graph t ≡ set.union (graph old) (staged_graph old b) → changed ≡ set.len (staged_graph old b) → now ≡ set.len (graph t) → IsSound mixed t → t.max ≡ old.max
+pub inserted : {mixed : ℕ → ℕ → ℕ → ℕ → ℕ} (s : StoreState) (body : List Saying) (old : StoreState) (b : Staging) (t : StoreState) (changed now : ℕ) → AreStaged s body old b
+    → graph t ≡ set.union (graph old) (staged_graph old b) → changed ≡ set.len (staged_graph old b) → now ≡ set.len (graph t) → IsBetweenCommands mixed t → t.max ≡ old.max
     → ChangesStore mixed s script.Inserts body t (answers.Done (answers.New changed now))
 inserted {mixed} s body old b t changed now h is c n sound max = record {
   changes = done (graph t) (answers.Done (answers.New changed now)) h.good (
@@ -187,8 +187,8 @@ inserted {mixed} s body old b t changed now h is c n sound max = record {
   max = max ∙ same_max s body old b h;
 }
 
-pub deleted : {mixed : ℕ → ℕ → ℕ → ℕ → ℕ} (s : State) (body : List Saying) (taken : IdSet) (t : State) (changed now : ℕ) → AreToGo s body taken
-    → graph t ≡ set.difference (graph s) (marked_graph s taken) → changed ≡ set.len (marked_graph s taken) → now ≡ set.len (graph t) → IsSound mixed t → t.max ≡ s.max
+pub deleted : {mixed : ℕ → ℕ → ℕ → ℕ → ℕ} (s : StoreState) (body : List Saying) (taken : IdSet) (t : StoreState) (changed now : ℕ) → AreToGo s body taken
+    → graph t ≡ set.difference (graph s) (marked_graph s taken) → changed ≡ set.len (marked_graph s taken) → now ≡ set.len (graph t) → IsBetweenCommands mixed t → t.max ≡ s.max
     → ChangesStore mixed s script.Deletes body t (answers.Done (answers.Gone changed now))
 deleted {mixed} s body taken t changed now h is c n sound max = record {
   changes = done (graph t) (answers.Done (answers.Gone changed now)) h.good (
@@ -203,7 +203,7 @@ deleted {mixed} s body taken t changed now h is c n sound max = record {
 -- ---- batches
 
 -- a batch of a sound store can be carried out
-pub ready_batch : {mixed : ℕ → ℕ → ℕ → ℕ → ℕ} (s : State) (change : script.Change) (body : List Saying) (held : State) (b : Batch) → IsSound mixed s → IsBatch s change body held b → IsReady held b
+pub ready_batch : {mixed : ℕ → ℕ → ℕ → ℕ → ℕ} (s : StoreState) (change : script.Change) (body : List Saying) (held : StoreState) (b : Batch) → IsBetweenCommands mixed s → IsBatch s change body held b → IsReady held b
 ready_batch {mixed} s script.Inserts body held (Inserts staged) sound h = h.fits
 ready_batch {mixed} s script.Deletes body held (Inserts staged) sound h = absurd h
 ready_batch {mixed} s script.Inserts body held (Deletes taken) sound h = absurd h
@@ -212,26 +212,26 @@ ready_batch {mixed} s script.Inserts body held (Refused cause) sound h = tt
 ready_batch {mixed} s script.Deletes body held (Refused cause) sound h = tt
 
 -- a refused batch leaves the store as it was, and has a cause
-pub of_refused : (s : State) (change : script.Change) (body : List Saying) (now : State) (r : Refusal) → IsBatch s change body now (Refused r) → (now ≡ s) × IsCause s change body r
+pub of_refused : (s : StoreState) (change : script.Change) (body : List Saying) (now : StoreState) (r : Refusal) → IsBatch s change body now (Refused r) → (now ≡ s) × IsCause s change body r
 of_refused s script.Inserts body now r h = h
 of_refused s script.Deletes body now r h = h
 
-pub is_refused_batch : (s : State) (change : script.Change) (body : List Saying) (now : State) (r : Refusal) → now ≡ s → IsCause s change body r → IsBatch s change body now (Refused r)
+pub is_refused_batch : (s : StoreState) (change : script.Change) (body : List Saying) (now : StoreState) (r : Refusal) → now ≡ s → IsCause s change body r → IsBatch s change body now (Refused r)
 is_refused_batch s script.Inserts body now r same h = (same, h)
 is_refused_batch s script.Deletes body now r same h = (same, h)
 
 -- with one more line it stays refused
-pub refused_more : (s : State) (change : script.Change) (body : List Saying) (now : State) (l : Saying) (r : Refusal) → IsBatch s change body now (Refused r) → IsBatch s change (body ++ l ∷ []) now (Refused r)
+pub refused_more : (s : StoreState) (change : script.Change) (body : List Saying) (now : StoreState) (l : Saying) (r : Refusal) → IsBatch s change body now (Refused r) → IsBatch s change (body ++ l ∷ []) now (Refused r)
 refused_more s change body now l r h = let was = of_refused s change body now r h in is_refused_batch s change (body ++ l ∷ []) now r was.0 (cause_stays s change body l r was.1)
 
 -- and with any more
-pub refused_front : (s : State) (change : script.Change) (body : List Saying) (now : State) (r : Refusal) (more : List Saying) → IsBatch s change body now (Refused r) → IsBatch s change (body ++ more) now (Refused r)
+pub refused_front : (s : StoreState) (change : script.Change) (body : List Saying) (now : StoreState) (r : Refusal) (more : List Saying) → IsBatch s change body now (Refused r) → IsBatch s change (body ++ more) now (Refused r)
 refused_front s change body now r [] h = subst (λ z. IsBatch s change z now (Refused r)) (sym (append-nil body)) h
 refused_front s change body now r (l ∷ more) h =
     subst (λ z. IsBatch s change z now (Refused r)) (append_assoc body (l ∷ []) more) (refused_front s change (body ++ l ∷ []) now r more (refused_more s change body now l r h))
 
 -- nothing is staged, and nothing is marked
-pub none_staged : (s : State) → IsSettled s → set.len (graph s) ≤ most_triples → AreStaged s [] s nothing_staged
+pub none_staged : (s : StoreState) → IsSettled s → set.len (graph s) ≤ most_triples → AreStaged s [] s nothing_staged
 none_staged s settled few = record {
   fits = fits_nothing s settled few;
   start = before_nothing s;
@@ -241,22 +241,22 @@ none_staged s settled few = record {
   within = inl (ap set.len (graph_of-empty s.dict) ∙ set.len-empty triple_cmp);
 }
 
-pub none_marked : (s : State) → AreToGo s [] set.empty
+pub none_marked : (s : StoreState) → AreToGo s [] set.empty
 none_marked s = record { there = marked_nothing s; triples = graph_of-empty s.dict ∙ sym (had-none (graph s)); good = refl }
 
 -- ---- one more line
 
 module _ (number : ℕ) (l : Saying) where
-  pub of_staged : (old : State) (staged : Staging) (now : State) (next : Batch) → ((s : State) (said : List Saying) → number ≡ length said + 1 → AreStaged s said old staged → IsBatch s script.Inserts (said ++ l ∷ []) now next)
+  pub of_staged : (old : StoreState) (staged : Staging) (now : StoreState) (next : Batch) → ((s : StoreState) (said : List Saying) → number ≡ length said + 1 → AreStaged s said old staged → IsBatch s script.Inserts (said ++ l ∷ []) now next)
       → HasOneMore number l old (Inserts staged) now next
   of_staged old staged now next f s script.Inserts said n h = f s said n h
   of_staged old staged now next f s script.Deletes said n h = absurd h
 
-  pub of_marked : (old : State) (taken : IdSet) (next : Batch) → ((said : List Saying) → number ≡ length said + 1 → AreToGo old said taken → IsBatch old script.Deletes (said ++ l ∷ []) old next)
+  pub of_marked : (old : StoreState) (taken : IdSet) (next : Batch) → ((said : List Saying) → number ≡ length said + 1 → AreToGo old said taken → IsBatch old script.Deletes (said ++ l ∷ []) old next)
       → HasOneMore number l old (Deletes taken) old next
   of_marked old taken next f s script.Inserts said n h = absurd h
   of_marked old taken next f s script.Deletes said n h =
       subst (λ z. IsBatch z script.Deletes (said ++ l ∷ []) old next) h.0 (f said n (subst (λ z. AreToGo z said taken) (sym h.0) h.1))
 
-  pub of_no_batch : (old : State) (r : Refusal) → HasOneMore number l old (Refused r) old (Refused r)
+  pub of_no_batch : (old : StoreState) (r : Refusal) → HasOneMore number l old (Refused r) old (Refused r)
   of_no_batch old r s change said n h = refused_more s change said old l r h

@@ -13,7 +13,7 @@ use Rattle.generated_triples.proofs.NameLemmas.{triple_at}
 use Rattle.script_model.specs.Commands as script
 use Rattle.run_model.specs.Sayings.{Saying}
 use Rattle.run_model.specs.Loads.{saying_of, generated_sayings}
-use Rattle.graph_store.specs.State.{State}
+use Rattle.graph_store.specs.StoreState.{StoreState}
 use Rattle.answer_text.specs.declared.Refusal.{Refusal}
 use Rattle.line_batch.specs.declared.batch.Batch.{Batch}
 use Rattle.line_batch.specs.declared.batch.Batch.TheVariants.{Refused}
@@ -40,14 +40,14 @@ module _ (n salt k : ℕ) (t : Triple) (within : k < n) (is : slice_get (generat
       let at : get_or (generated n salt) k t ≡ t = same_Some _ _ (sym (slice_get-get_or (generated n salt) k t lt) ∙ is) in
       ap (map saying_of) (take_more (generated n salt) k t lt ∙ ap (λ x. take k (generated n salt) ++ x ∷ []) at) ∙ map-append saying_of (take k (generated n salt)) (t ∷ [])
 
-  pub first_step : (s now : State) (b : Batch) (later : State) (next : Batch) → IsBatch s script.Inserts (first n salt k) now b → HasOneMore (k + 1) (saying_of t) now b later next
+  pub first_step : (s now : StoreState) (b : Batch) (later : StoreState) (next : Batch) → IsBatch s script.Inserts (first n salt k) now b → HasOneMore (k + 1) (saying_of t) now b later next
       → IsBatch s script.Inserts (first n salt (k + 1)) later next
   first_step s now b later next h more =
       let count : k + 1 ≡ length (first n salt k) + 1 = omega (arith, within, size n salt, length-map (take k (generated n salt)) saying_of, length-take k (generated n salt)) in
       subst (λ z. IsBatch s script.Inserts z later next) (sym first_more) (more s script.Inserts (first n salt k) count h)
 
   -- where one of them can't be put in, nor can all of them
-  pub first_refused : (s now : State) (b : Batch) (later : State) (why : Refusal) → IsBatch s script.Inserts (first n salt k) now b → HasOneMore (k + 1) (saying_of t) now b later (Refused why)
+  pub first_refused : (s now : StoreState) (b : Batch) (later : StoreState) (why : Refusal) → IsBatch s script.Inserts (first n salt k) now b → HasOneMore (k + 1) (saying_of t) now b later (Refused why)
       → IsBatch s script.Inserts (generated_sayings n salt) later (Refused why)
   first_refused s now b later why h more =
       let all : first n salt (k + 1) ++ map saying_of (drop (k + 1) (generated n salt)) ≡ generated_sayings n salt =

@@ -25,7 +25,7 @@ use Rattle.run_model.specs.Loads.{text_refusal, file_refusal, RefusesFile, Fails
 use Rattle.run_model.specs.Steps as steps
 use Rattle.run_model.specs.Steps.{Step}
 use Rattle.run_model.specs.Worlds.{Config, World, FailedRead}
-use Rattle.graph_store.specs.State.{State, graph}
+use Rattle.graph_store.specs.StoreState.{StoreState, graph}
 use Rattle.answer_text.specs.declared.Refusal.{Refusal}
 use Rattle.answer_text.specs.declared.Refusal.TheVariants as cause
 use Rattle.answer_text.specs.Seen.{refusal_of}
@@ -35,7 +35,7 @@ use Rattle.line_batch.specs.Batches as changed
 use Rattle.line_batch.specs.Batches.{batch_refusal, IsCause, IsBatch, IsGoing, IsNone, HasOneMore, ChangesBy, ChangesStore}
 use Rattle.line_batch.specs.Carrying.{Around, config_in, world_in, Carries}
 use Rattle.line_batch.specs.Loading.{Has, HasWhole, IsFileCause, file_command}
-use Rattle.line_batch.specs.Sound.{IsSound}
+use Rattle.line_batch.specs.Sound.{IsBetweenCommands}
 use Rattle.line_batch.proofs.BatchLemmas.{of_refused}
 use Rattle.line_batch.proofs.RefusalLemmas.{refusal-front}
 
@@ -104,7 +104,7 @@ none_before : (ls more : List Line) → [] ≡ ls ++ more → ls ≡ []
 none_before [] more e = refl
 none_before (l ∷ ls) more e = absurd (let t : ⊥ = cc in t)
 
-module _ (A : Around) (s : State) (change : script.Change) (scope name : Text) where
+module _ (A : Around) (s : StoreState) (change : script.Change) (scope name : Text) where
   abbrev cfg : Config
   cfg = config_in A s
 
@@ -112,7 +112,7 @@ module _ (A : Around) (s : State) (change : script.Change) (scope name : Text) w
   W = world_in A s
 
   -- what was told of a file is refused, and so the file is
-  pub refuses : (r : reader.State) (taken : List ℕ) (told : List Line) (q : answers.Refusal) → r.max ≡ A.most_bytes → HasTold A.files name r taken told
+  pub refuses : (r : reader.ReaderState) (taken : List ℕ) (told : List Line) (q : answers.Refusal) → r.max ≡ A.most_bytes → HasTold A.files name r taken told
       → batch_refusal s change (sayings scope told) ≡ Some q → RefusesFile cfg W change scope name q
   refuses r taken told q max (inr h) e = record {
     bytes = taken;
@@ -148,7 +148,7 @@ module _ (A : Around) (s : State) (change : script.Change) (scope name : Text) w
       }
 
   -- why a line is refused is why the file is
-  pub file_cause : (r : reader.State) (taken : List ℕ) (told : List Line) → r.max ≡ A.most_bytes → HasTold A.files name r taken told → (why : Refusal) → IsCause s change (sayings scope told) why → IsFileCause A s change scope name why
+  pub file_cause : (r : reader.ReaderState) (taken : List ℕ) (told : List Line) → r.max ≡ A.most_bytes → HasTold A.files name r taken told → (why : Refusal) → IsCause s change (sayings scope told) why → IsFileCause A s change scope name why
   file_cause r taken told max h (cause.Line n) e = refuses r taken told (answers.BadLine n) max h e
   file_cause r taken told max h (cause.Full n) e = refuses r taken told (answers.FullAt n) max h e
   file_cause r taken told max h cause.Memory e = tt
@@ -163,21 +163,21 @@ module _ (A : Around) (s : State) (change : script.Change) (scope name : Text) w
 -- ---- the lines of a file, as they come
 
 -- a call whose result and files are known under other names
-pub next_in : {told files : Option FileMap} {name : Text} {r t : reader.State} {found result : Result (Option Cut) FileFault} → files ≡ told → found ≡ result → NextLine files name r t found → NextLine told name r t result
+pub next_in : {told files : Option FileMap} {name : Text} {r t : reader.ReaderState} {found result : Result (Option Cut) FileFault} → files ≡ told → found ≡ result → NextLine files name r t found → NextLine told name r t result
 next_in {told} {files} {name} {r} {t} {found} {result} same is next = subst (λ f. NextLine f name r t result) same (subst (NextLine files name r t) is next)
 
 pub has_at : {A : Around} {mixed : ℕ → ℕ → ℕ → ℕ → ℕ} {max : ℕ} {files : Option FileMap} (other : ℕ) → other ≡ max → Has A mixed max files → Has A mixed other files
 has_at other is has = record { mixed = has.mixed; most_bytes = has.most_bytes ∙ sym is; files = has.files }
 
 -- What was told of a file, and the store and the batch that it made of those at first.
-pub record HasGathered (files : Option FileMap) (scope name : Text) (r : reader.State) (old : State) (from : Batch) (number : ℕ) (now : State) (batch : Batch) : Type 0 where
+pub record HasGathered (files : Option FileMap) (scope name : Text) (r : reader.ReaderState) (old : StoreState) (from : Batch) (number : ℕ) (now : StoreState) (batch : Batch) : Type 0 where
   pub taken : List ℕ
   pub told : List Line
   pub tells : HasTold files name r taken told
   pub count : number ≡ length told
   pub lines : (change : script.Change) → IsNone old change from → IsBatch old change (sayings scope told) now batch
 
-pub gather_starts : (files : Option FileMap) (scope name : Text) (r : reader.State) (max : ℕ) (old : State) (from : Batch) → r ≡ at_start max → HasGathered files scope name r old from 0 old from
+pub gather_starts : (files : Option FileMap) (scope name : Text) (r : reader.ReaderState) (max : ℕ) (old : StoreState) (from : Batch) → r ≡ at_start max → HasGathered files scope name r old from 0 old from
 gather_starts files scope name r max old from is = record {
   taken = [];
   told = [];
@@ -187,16 +187,16 @@ gather_starts files scope name r max old from is = record {
 }
 
 -- a batch without a refused line says of its lines that none is refused
-going_good : (s : State) (change : script.Change) (said : List Saying) (now : State) (b : Batch) → IsBatch s change said now b → IsGoing b → batch_refusal s change said ≡ None
+going_good : (s : StoreState) (change : script.Change) (said : List Saying) (now : StoreState) (b : Batch) → IsBatch s change said now b → IsGoing b → batch_refusal s change said ≡ None
 going_good s script.Inserts said now (Inserts staged) h g = h.good
 going_good s script.Deletes said now (Inserts staged) h g = absurd h
 going_good s script.Inserts said now (Deletes taken) h g = absurd h
 going_good s script.Deletes said now (Deletes taken) h g = h.1.good
 going_good s change said now (Refused why) h g = absurd g
 
-module _ (files : Option FileMap) (scope name : Text) (r : reader.State) (old : State) (from : Batch) (number : ℕ) (now : State) (batch : Batch) (h : HasGathered files scope name r old from number now batch) (t : reader.State) where
+module _ (files : Option FileMap) (scope name : Text) (r : reader.ReaderState) (old : StoreState) (from : Batch) (number : ℕ) (now : StoreState) (batch : Batch) (h : HasGathered files scope name r old from number now batch) (t : reader.ReaderState) where
   -- one more line
-  pub gather_line : (cut : Cut) (later : State) (next : Batch) → NextLine files name r t (Ok (Some cut)) → HasOneMore (number + 1) (says scope (line_told cut t.cutter)) now batch later next
+  pub gather_line : (cut : Cut) (later : StoreState) (next : Batch) → NextLine files name r t (Ok (Some cut)) → HasOneMore (number + 1) (says scope (line_told cut t.cutter)) now batch later next
       → HasGathered files scope name t old from (number + 1) later next
   gather_line cut later next found more =
       let l = line_told cut t.cutter in
@@ -246,7 +246,7 @@ module _ (files : Option FileMap) (scope name : Text) (r : reader.State) (old : 
           (subst (λ m. OfFile A.files name (λ bytes. file_lines m bytes ≡ long h.told)) (sym has.most_bytes) of) good
 
 -- a line was refused
-pub gather_refused : (files : Option FileMap) (scope name : Text) (t : reader.State) (old : State) (from : Batch) (number : ℕ) (now : State) (why : Refusal) → HasGathered files scope name t old from number now (Refused why)
+pub gather_refused : (files : Option FileMap) (scope name : Text) (t : reader.ReaderState) (old : StoreState) (from : Batch) (number : ℕ) (now : StoreState) (why : Refusal) → HasGathered files scope name t old from number now (Refused why)
     → (A : Around) (change : script.Change) {mixed : ℕ → ℕ → ℕ → ℕ → ℕ} → Has A mixed t.max files → IsNone old change from → (now ≡ old) × IsFileCause A old change scope name why
 gather_refused files scope name t old from number now why h A change {mixed} has none =
     let was = of_refused old change (sayings scope h.told) now why (h.lines change none) in
@@ -268,12 +268,12 @@ all_told max bytes told = by (nat_le (length bytes) max) where
     lines_in (long ls) = ls
   by false e = absurd (let t : ⊥ = cc in t)
 
-module _ (A : Around) (s : State) (change : script.Change) (scope name : Text) where
+module _ (A : Around) (s : StoreState) (change : script.Change) (scope name : Text) where
   abbrev c : script.Command
   c = file_command change scope name
 
   -- a file that was read whole
-  pub load_whole : (now : State) (batch : Batch) (t : State) (a : answers.Answer) (h : HasWhole A s change scope name now batch) → ChangesStore A.mixed s change (sayings scope h.told) t a → Carries A s c t a None
+  pub load_whole : (now : StoreState) (batch : Batch) (t : StoreState) (a : answers.Answer) (h : HasWhole A s change scope name now batch) → ChangesStore A.mixed s change (sayings scope h.told) t a → Carries A s c t a None
   load_whole now batch t a h did = record { step = by (graph t) a did.changes; refused = did.refused; sound = did.sound; max = did.max } where
     told : lines_of h.bytes ≡ h.told
     told = all_told A.most_bytes h.bytes h.told h.lines
@@ -287,7 +287,7 @@ module _ (A : Around) (s : State) (change : script.Change) (scope name : Text) w
     by _ _ (changed.refused r e) = steps.file_refused change scope name r (record { bytes = h.bytes; there = h.there; refused = found ∙ e })
     by _ _ changed.no_memory = steps.no_memory c (λ e. let t : ⊥ = cc in t)
 
-  module _ (sound : IsSound A.mixed s) where
+  module _ (sound : IsBetweenCommands A.mixed s) where
     stays : (a : answers.Refusal) (failed : Option FailedRead) → Step (config_in A s) (world_in A s) c (world_in A s) (answers.Refused a) failed → Carries A s c s (answers.Refused a) failed
     stays a failed step = record { step = step; refused = λ _. refl; sound = sound; max = refl }
 
@@ -306,10 +306,10 @@ module _ (A : Around) (s : State) (change : script.Change) (scope name : Text) w
     by_cause cause.Size h = absurd h
     by_cause cause.Unended h = absurd h
 
-    pub load_refused : (t : State) → t ≡ s → (why : Refusal) → IsFileCause A s change scope name why → Carries A s c t (answers.Refused (refusal_of why)) None
+    pub load_refused : (t : StoreState) → t ≡ s → (why : Refusal) → IsFileCause A s change scope name why → Carries A s c t (answers.Refused (refusal_of why)) None
     load_refused t is why h = subst (λ z. Carries A s c z (answers.Refused (refusal_of why)) None) (sym is) (by_cause why h)
 
-    pub load_failed : (t : State) → t ≡ s → (place : ℕ) → FailsAt (config_in A s) (world_in A s) change scope name place → Carries A s c t (answers.Refused answers.NoFile) (Some (record { name = name; place = place }))
+    pub load_failed : (t : StoreState) → t ≡ s → (place : ℕ) → FailsAt (config_in A s) (world_in A s) change scope name place → Carries A s c t (answers.Refused answers.NoFile) (Some (record { name = name; place = place }))
     load_failed t is place h =
         subst (λ z. Carries A s c z (answers.Refused answers.NoFile) (Some (record { name = name; place = place }))) (sym is)
         (stays answers.NoFile (Some (record { name = name; place = place })) (steps.file_failed change scope name place h))

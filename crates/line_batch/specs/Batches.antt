@@ -14,11 +14,11 @@ use Rattle.run_model.specs.Answers as answers
 use Rattle.run_model.specs.Answers.{is_refused}
 use Rattle.run_model.specs.Sayings.{Saying, triples_of, first_refusal, Changes}
 use Rattle.run_model.specs.Loads.{generated_sayings, saying_of}
-use Rattle.graph_store.specs.State.{State, graph, IsSettled}
+use Rattle.graph_store.specs.StoreState.{StoreState, graph, IsSettled}
 use Rattle.graph_store.specs.Staging.{Staging, staged_graph, Fits, before, AreMarked, marked_graph}
 use Rattle.answer_text.specs.declared.Refusal.{Refusal}
 use Rattle.answer_text.specs.declared.Refusal.TheVariants as cause
-use Rattle.line_batch.specs.Sound.{IsSound}
+use Rattle.line_batch.specs.Sound.{IsBetweenCommands}
 use Rattle.line_batch.specs.declared.batch.Batch.{Batch}
 use Rattle.line_batch.specs.declared.batch.Batch.TheVariants.{Inserts, Deletes, Refused}
 
@@ -54,18 +54,18 @@ pub data ChangesBy (most : ℕ) (change : script.Change) (said : List Saying) (G
   no_memory : ChangesBy most change said G G (answers.Refused answers.NoMemory)
 
 -- The lines took the store from s to t.
-pub record ChangesStore (mixed : ℕ → ℕ → ℕ → ℕ → ℕ) (s : State) (change : script.Change) (said : List Saying) (t : State) (a : answers.Answer) : Type 0 where
+pub record ChangesStore (mixed : ℕ → ℕ → ℕ → ℕ → ℕ) (s : StoreState) (change : script.Change) (said : List Saying) (t : StoreState) (a : answers.Answer) : Type 0 where
   pub changes : ChangesBy s.max change said (graph s) (graph t) a
   pub refused : is_refused a ≡ true → t ≡ s
-  pub sound : IsSound mixed t
+  pub sound : IsBetweenCommands mixed t
   pub max : t.max ≡ s.max
 
 -- the refusal of these lines over the store s
-abbrev pub batch_refusal : State → script.Change → List Saying → Option answers.Refusal
+abbrev pub batch_refusal : StoreState → script.Change → List Saying → Option answers.Refusal
 batch_refusal s change said = first_refusal change s.max (graph s) said
 
 -- why the lines are refused
-abbrev pub IsCause : State → script.Change → List Saying → Refusal → Type 0
+abbrev pub IsCause : StoreState → script.Change → List Saying → Refusal → Type 0
 IsCause s change said (cause.Line number) = batch_refusal s change said ≡ Some (answers.BadLine number)
 IsCause s change said (cause.Full number) = batch_refusal s change said ≡ Some (answers.FullAt number)
 IsCause s change said cause.Memory = Unit {0}
@@ -78,7 +78,7 @@ IsCause s change said cause.Size = ⊥
 IsCause s change said cause.Unended = ⊥
 
 -- The triples of the lines that the graph lacks are staged in the store, which was s before the batch.
-pub record AreStaged (s : State) (said : List Saying) (now : State) (staged : Staging) : Type 0 where
+pub record AreStaged (s : StoreState) (said : List Saying) (now : StoreState) (staged : Staging) : Type 0 where
   pub fits : Fits now staged
   pub start : before now staged ≡ s
   pub same : graph now ≡ graph s
@@ -87,13 +87,13 @@ pub record AreStaged (s : State) (said : List Saying) (now : State) (staged : St
   pub within : (set.len (staged_graph now staged) ≡ 0) ⊎ (set.len (graph s) + set.len (staged_graph now staged) ≤ s.max)
 
 -- The triples of the lines that the graph has are marked in the store s.
-pub record AreToGo (s : State) (said : List Saying) (taken : IdSet) : Type 0 where
+pub record AreToGo (s : StoreState) (said : List Saying) (taken : IdSet) : Type 0 where
   pub there : AreMarked s taken
   pub triples : marked_graph s taken ≡ set.intersection (set.from_list (triples_of said)) (graph s)
   pub good : batch_refusal s script.Deletes said ≡ None
 
 -- what is known of the lines of a batch over the store s, which is `now` while they are staged or marked
-abbrev pub IsBatch : State → script.Change → List Saying → State → Batch → Type 0
+abbrev pub IsBatch : StoreState → script.Change → List Saying → StoreState → Batch → Type 0
 IsBatch s script.Inserts said now (Inserts staged) = AreStaged s said now staged
 IsBatch s script.Deletes said now (Inserts staged) = ⊥
 IsBatch s script.Inserts said now (Deletes taken) = ⊥
@@ -107,49 +107,49 @@ IsGoing (Deletes taken) = Unit {0}
 IsGoing (Refused cause) = ⊥
 
 -- a batch over the store without a line yet
-abbrev pub IsNone : State → script.Change → Batch → Type 0
+abbrev pub IsNone : StoreState → script.Change → Batch → Type 0
 IsNone s change batch = IsBatch s change [] s batch × IsGoing batch
 
 -- the store can carry the batch out
-abbrev pub IsReady : State → Batch → Type 0
+abbrev pub IsReady : StoreState → Batch → Type 0
 IsReady now (Inserts staged) = Fits now staged
 IsReady now (Deletes taken) = IsSettled now × AreMarked now taken
 IsReady now (Refused cause) = Unit {0}
 
 -- One more line that says this, of this number, is among the staged ones, or there is a cause why it can't be.
-abbrev pub StagesOneMore : ℕ → Saying → State → Staging → State → Staging → Option Refusal → Type 0
+abbrev pub StagesOneMore : ℕ → Saying → StoreState → Staging → StoreState → Staging → Option Refusal → Type 0
 StagesOneMore number saying old staged now more why =
-    (s : State) (said : List Saying) → number ≡ length said + 1 → AreStaged s said old staged
+    (s : StoreState) (said : List Saying) → number ≡ length said + 1 → AreStaged s said old staged
     → MatchOption why (AreStaged s (said ++ saying ∷ []) now more) (IsCause s script.Inserts (said ++ saying ∷ []))
 
 -- One more line that says this, of this number, is among the marked ones, or there is a cause why it can't be.
-abbrev pub MarksOneMore : ℕ → Saying → State → IdSet → IdSet → Option Refusal → Type 0
+abbrev pub MarksOneMore : ℕ → Saying → StoreState → IdSet → IdSet → Option Refusal → Type 0
 MarksOneMore number saying s taken more why =
     (said : List Saying) → number ≡ length said + 1 → AreToGo s said taken
     → MatchOption why (AreToGo s (said ++ saying ∷ []) more) (IsCause s script.Deletes (said ++ saying ∷ []))
 
 -- A batch over a store has become another by one more line, which says this and has this number.
-abbrev pub HasOneMore : ℕ → Saying → State → Batch → State → Batch → Type 0
+abbrev pub HasOneMore : ℕ → Saying → StoreState → Batch → StoreState → Batch → Type 0
 HasOneMore number saying old batch now next =
-    (s : State) (change : script.Change) (said : List Saying) → number ≡ length said + 1 → IsBatch s change said old batch
+    (s : StoreState) (change : script.Change) (said : List Saying) → number ≡ length said + 1 → IsBatch s change said old batch
     → IsBatch s change (said ++ saying ∷ []) now next
 
 -- Its lines took the store that the batch was begun over to this one.
-abbrev pub CarriesOut : (ℕ → ℕ → ℕ → ℕ → ℕ) → State → Batch → State → answers.Answer → Type 0
-CarriesOut mixed now batch t a = (s : State) (change : script.Change) (said : List Saying) → IsSound mixed s → IsBatch s change said now batch → ChangesStore mixed s change said t a
+abbrev pub CarriesOut : (ℕ → ℕ → ℕ → ℕ → ℕ) → StoreState → Batch → StoreState → answers.Answer → Type 0
+CarriesOut mixed now batch t a = (s : StoreState) (change : script.Change) (said : List Saying) → IsBetweenCommands mixed s → IsBatch s change said now batch → ChangesStore mixed s change said t a
 
 -- the staged triples were put in
-abbrev pub PutsIn : (ℕ → ℕ → ℕ → ℕ → ℕ) → State → Staging → State → answers.Answer → Type 0
-PutsIn mixed now staged t a = (s : State) (said : List Saying) → IsSound mixed s → AreStaged s said now staged → ChangesStore mixed s script.Inserts said t a
+abbrev pub PutsIn : (ℕ → ℕ → ℕ → ℕ → ℕ) → StoreState → Staging → StoreState → answers.Answer → Type 0
+PutsIn mixed now staged t a = (s : StoreState) (said : List Saying) → IsBetweenCommands mixed s → AreStaged s said now staged → ChangesStore mixed s script.Inserts said t a
 
 -- the marked triples were taken out
-abbrev pub TakesOut : (ℕ → ℕ → ℕ → ℕ → ℕ) → State → IdSet → State → answers.Answer → Type 0
-TakesOut mixed s taken t a = (said : List Saying) → IsSound mixed s → AreToGo s said taken → ChangesStore mixed s script.Deletes said t a
+abbrev pub TakesOut : (ℕ → ℕ → ℕ → ℕ → ℕ) → StoreState → IdSet → StoreState → answers.Answer → Type 0
+TakesOut mixed s taken t a = (said : List Saying) → IsBetweenCommands mixed s → AreToGo s said taken → ChangesStore mixed s script.Deletes said t a
 
 -- the store is the one that the batch was begun over
-abbrev pub GoesBack : State → Batch → State → Type 0
-GoesBack now batch t = (s : State) (change : script.Change) (said : List Saying) → IsBatch s change said now batch → t ≡ s
+abbrev pub GoesBack : StoreState → Batch → StoreState → Type 0
+GoesBack now batch t = (s : StoreState) (change : script.Change) (said : List Saying) → IsBatch s change said now batch → t ≡ s
 
 -- the generated triples were put in, as lines that say them
-abbrev pub Generates : (ℕ → ℕ → ℕ → ℕ → ℕ) → ℕ → ℕ → State → State → answers.Answer → Type 0
-Generates mixed count salt s t a = IsSound mixed s → ChangesStore mixed s script.Inserts (generated_sayings count salt) t a
+abbrev pub Generates : (ℕ → ℕ → ℕ → ℕ → ℕ) → ℕ → ℕ → StoreState → StoreState → answers.Answer → Type 0
+Generates mixed count salt s t a = IsBetweenCommands mixed s → ChangesStore mixed s script.Inserts (generated_sayings count salt) t a

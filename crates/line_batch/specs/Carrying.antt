@@ -6,8 +6,8 @@ use Rattle.script_model.specs.Commands.{Command}
 use Rattle.run_model.specs.Answers.{Answer, is_refused}
 use Rattle.run_model.specs.Worlds.{Config, World, FailedRead}
 use Rattle.run_model.specs.Steps.{Step}
-use Rattle.graph_store.specs.State.{State, graph}
-use Rattle.line_batch.specs.Sound.{IsSound}
+use Rattle.graph_store.specs.StoreState.{StoreState, graph}
+use Rattle.line_batch.specs.Sound.{IsBetweenCommands}
 
 -- Beside the store: the mix by which its tables hash, whether rows are sorted, how many bytes the script and each file may have, and the
 -- files, where they are told.
@@ -17,15 +17,15 @@ pub record Around : Type 0 where
   pub most_bytes : ℕ
   pub files : Option FileMap
 
-abbrev pub config_in : Around → State → Config
+abbrev pub config_in : Around → StoreState → Config
 config_in A s = record { sorted = A.sorted; most_triples = s.max; most_bytes = A.most_bytes }
 
-abbrev pub world_in : Around → State → World
+abbrev pub world_in : Around → StoreState → World
 world_in A s = record { graph = graph s; files = A.files }
 
 -- a command took the store from s to t
-pub record Carries (A : Around) (s : State) (c : Command) (t : State) (a : Answer) (failed : Option FailedRead) : Type 0 where
+pub record Carries (A : Around) (s : StoreState) (c : Command) (t : StoreState) (a : Answer) (failed : Option FailedRead) : Type 0 where
   pub step : Step (config_in A s) (world_in A s) c (world_in A t) a failed
   pub refused : is_refused a ≡ true → t ≡ s
-  pub sound : IsSound A.mixed t
+  pub sound : IsBetweenCommands A.mixed t
   pub max : t.max ≡ s.max

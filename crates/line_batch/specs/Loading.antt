@@ -11,7 +11,7 @@ use Rattle.run_model.specs.Answers.{Answer}
 use Rattle.run_model.specs.Sayings.{sayings}
 use Rattle.run_model.specs.Loads.{RefusesFile, FailsAt}
 use Rattle.run_model.specs.Worlds.{FailedRead}
-use Rattle.graph_store.specs.State.{State}
+use Rattle.graph_store.specs.StoreState.{StoreState}
 use Rattle.answer_text.specs.declared.Refusal.{Refusal}
 use Rattle.answer_text.specs.declared.Refusal.TheVariants as cause
 use Rattle.answer_text.specs.Seen.{refusal_of}
@@ -37,13 +37,13 @@ IsCounted before now None = now ≡ before
 IsCounted before now (Some read) = Rose (before read.name read.place) (now read.name read.place) × ((other : Text) → (place : ℕ) → before other place ≤ now other place)
 
 -- A command that reads a file took the store from s to t: a read of it may have failed.
-pub record CarriesReads (A : Around) (s : State) (c : script.Command) (t : State) (a : Answer) (before now : FaultCounts) : Type 0 where
+pub record CarriesReads (A : Around) (s : StoreState) (c : script.Command) (t : StoreState) (a : Answer) (before now : FaultCounts) : Type 0 where
   pub failed : Option FailedRead
   pub carries : Carries A s c t a failed
   pub counted : IsCounted before now failed
 
 -- the lines of a whole file are in the batch
-pub record HasWhole (A : Around) (s : State) (change : script.Change) (scope name : Text) (now : State) (batch : Batch) : Type 0 where
+pub record HasWhole (A : Around) (s : StoreState) (change : script.Change) (scope name : Text) (now : StoreState) (batch : Batch) : Type 0 where
   pub bytes : List ℕ
   pub told : List Line
   pub lines : file_lines A.most_bytes bytes ≡ All told
@@ -51,7 +51,7 @@ pub record HasWhole (A : Around) (s : State) (change : script.Change) (scope nam
   pub is : IsBatch s change (sayings scope told) now batch
 
 -- the file can't be carried out by its bytes, or memory has run out
-abbrev pub IsFileCause : Around → State → script.Change → Text → Text → Refusal → Type 0
+abbrev pub IsFileCause : Around → StoreState → script.Change → Text → Text → Refusal → Type 0
 IsFileCause A s change scope name (cause.Line n) = RefusesFile (config_in A s) (world_in A s) change scope name (refusal_of (cause.Line n))
 IsFileCause A s change scope name (cause.Full n) = RefusesFile (config_in A s) (world_in A s) change scope name (refusal_of (cause.Full n))
 IsFileCause A s change scope name cause.Long = RefusesFile (config_in A s) (world_in A s) change scope name (refusal_of cause.Long)
@@ -64,7 +64,7 @@ IsFileCause A s change scope name cause.Size = ⊥
 IsFileCause A s change scope name cause.Unended = ⊥
 
 -- What is known of the store, which was s before the file was read, by how its lines were gathered. `place` is that of the last read.
-abbrev pub Gathers : Around → State → script.Change → Text → Text → State → ℕ → Gathered → Type 0
+abbrev pub Gathers : Around → StoreState → script.Change → Text → Text → StoreState → ℕ → Gathered → Type 0
 Gathers A s change scope name now place (gathered.Whole batch) = HasWhole A s change scope name now batch
 Gathers A s change scope name now place (gathered.Refused cause) = (now ≡ s) × IsFileCause A s change scope name cause
 Gathers A s change scope name now place gathered.Failed = (now ≡ s) × FailsAt (config_in A s) (world_in A s) change scope name place
@@ -76,7 +76,7 @@ failed_read name place (gathered.Refused cause) = None
 failed_read name place gathered.Failed = Some (record { name = name; place = place })
 
 -- the store can carry the gathered lines out
-abbrev pub IsReadyGathered : State → Gathered → Type 0
+abbrev pub IsReadyGathered : StoreState → Gathered → Type 0
 IsReadyGathered now (gathered.Whole batch) = IsReady now batch
 IsReadyGathered now (gathered.Refused cause) = Unit {0}
 IsReadyGathered now gathered.Failed = Unit {0}

@@ -4,7 +4,7 @@ ghost use Rattle.ntriples_model.specs.Proper.{IsProperTriple};
 ghost use Rattle.rdf_term.specs.Seen.{lent_triple};
 ghost use Rattle.run_model.specs.Sayings.{says};
 ghost use Rattle.script_model.specs.Commands as script;
-ghost use Rattle.graph_store.specs.State.{IsSettled};
+ghost use Rattle.graph_store.specs.StoreState.{IsSettled};
 ghost use Rattle.graph_store.specs.Staging.{Fits, before, AreMarked};
 ghost use Rattle.line_batch.specs.Seen.{answer_of};
 ghost use Rattle.line_batch.specs.Batches.{lent_line, MayBeScope, IsNone, IsReady, CarriesOut, GoesBack, PutsIn, TakesOut};
@@ -170,8 +170,7 @@ impl Batch {
         ensures ready { IsReady store.now result }
         ensures none { IsNone store.now script.Inserts result }
     {
-        // This call tells the proof how many triples there are at most.
-        store.triples();
+        store.stands();
         Batch::Inserts(Staged::new(alloc))
     }
 
@@ -271,8 +270,7 @@ fn put_in<M: Mix, W: Ledger, V: Ledger, U: Ledger>(
     ensures { PutsIn M.mixed store.old staged store.new (answer_of result) }
 {
     let inserted = store.insert(alloc, staged, &mut counts.interns, &mut counts.retains);
-    // This call tells the proof that the tables are the shape of the graph.
-    store.triples();
+    store.stands();
     match inserted {
         Ok(change) => Answer::New(change),
         Err(_) => Answer::Refused(Refusal::Memory),
@@ -290,8 +288,7 @@ fn take_out<M: Mix, W: Ledger, V: Ledger, U: Ledger>(
     ensures { TakesOut M.mixed store.old taken store.new (answer_of result) }
 {
     let deleted = store.delete(alloc, taken, &mut counts.interns, &mut counts.retains);
-    // This call tells the proof that the tables are the shape of the graph.
-    store.triples();
+    store.stands();
     match deleted {
         Ok(change) => Answer::Gone(change),
         Err(_) => Answer::Refused(Refusal::Memory),

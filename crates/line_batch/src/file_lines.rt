@@ -2,7 +2,7 @@
 ghost use Rattle.std.specs.Prelude.{◌≡◌, ◌≤◌, length, IfSome};
 ghost use Rattle.tn_io.specs.CutterState.{line_told};
 ghost use Rattle.script_model.specs.Commands as script;
-ghost use Rattle.line_batch.specs.Sound.{IsSound};
+ghost use Rattle.line_batch.specs.Sound.{IsBetweenCommands};
 ghost use Rattle.line_batch.specs.Seen.{answer_of};
 ghost use Rattle.line_batch.specs.Batches.{lent_line, MayBeScope, IsNone, IsReady};
 ghost use Rattle.line_batch.specs.Carrying.{Around};
@@ -104,7 +104,7 @@ pub fn load<M: Mix, F: Files, W: Ledger, V: Ledger, U: Ledger>(
     requires scope { MayBeScope scope.now }
     requires few { reader.old.max ≤ 1099511627776 }
     ensures carries { (A : Around) (change : script.Change) → Has A M.mixed reader.old.max (F.files files.old)
-        → IsSound M.mixed store.old → IsNone store.old change batch
+        → IsBetweenCommands M.mixed store.old → IsNone store.old change batch
         → CarriesReads A store.old (file_command change scope.now name.now) store.new (answer_of result)
         (F.faults files.old) (F.faults files.new) }
     ensures same { F.files files.new ≡ F.files files.old }

@@ -2,7 +2,7 @@
 ghost use Rattle.std.specs.Prelude.{◌≡◌, ◌≤◌};
 ghost use Rattle.script_model.specs.Commands as script;
 ghost use Rattle.run_model.specs.Loads.{generated_sayings};
-ghost use Rattle.graph_store.specs.State.{IsSettled};
+ghost use Rattle.graph_store.specs.StoreState.{IsSettled};
 ghost use Rattle.line_batch.specs.Seen.{answer_of};
 ghost use Rattle.line_batch.specs.Batches.{IsBatch, IsReady, Generates};
 

@@ -14,7 +14,7 @@ use Rattle.query_plan.specs.declared.query.Query.{Query}
 use Rattle.query_plan.specs.declared.patterns.Pattern as code
 use Rattle.query_plan.specs.declared.patterns.Place as code_place
 use Rattle.query_plan.specs.declared.patterns.Place.TheVariants as variant
-use Rattle.query_read.specs.LabelledBlock.{place_labels, labels_of, Stands, AllStanding, IsLabelledBlock}
+use Rattle.query_read.specs.LabelledBlock.{place_labels, labels_of, IsLabelIn, AllStanding, IsLabelledBlock}
 use Rattle.query_read.specs.Reads.{block_within}
 use Rattle.query_read.proofs.LabelsTouched.{AllTriples, all_join, all_left, all_right, block_labels, block_touched, block_placed}
 use Rattle.query_read.proofs.NamesNumbered.{numbered, AllNamed, all_named, all_at, Has, each_has, size_all, aligned, named_at, at_named, any_before_end}
@@ -122,12 +122,12 @@ among (l ∷ ls) = (or_left (nat_eq l l) (list_any (nat_eq l) ls) (equal l l ref
     equal : (a b : ℕ) → a ≡ b → nat_eq a b ≡ true
     equal a b e = grind (arith, nat_tests)
 
-all_stand : (ps : List Pattern) → AllStanding (Stands ps) ps
+all_stand : (ps : List Pattern) → AllStanding (IsLabelIn ps) ps
 all_stand [] = tt
 all_stand (p ∷ ps) = (
-  all_weaken (λ l. list_any (nat_eq l) (labels_of p) ≡ true) (Stands (p ∷ ps)) (λ l e. or_left (list_any (nat_eq l) (labels_of p)) (list_any (λ q. list_any (nat_eq l) (labels_of q)) ps) e) (labels_of p) (among (labels_of p)),
-  all_weaken (λ q. AllByRecursion (Stands ps) (labels_of q)) (λ q. AllByRecursion (Stands (p ∷ ps)) (labels_of q))
-      (λ q h. all_weaken (Stands ps) (Stands (p ∷ ps)) (λ l e. or_right (list_any (nat_eq l) (labels_of p)) (list_any (λ q. list_any (nat_eq l) (labels_of q)) ps) e) (labels_of q) h) ps (all_stand ps),
+  all_weaken (λ l. list_any (nat_eq l) (labels_of p) ≡ true) (IsLabelIn (p ∷ ps)) (λ l e. or_left (list_any (nat_eq l) (labels_of p)) (list_any (λ q. list_any (nat_eq l) (labels_of q)) ps) e) (labels_of p) (among (labels_of p)),
+  all_weaken (λ q. AllByRecursion (IsLabelIn ps) (labels_of q)) (λ q. AllByRecursion (IsLabelIn (p ∷ ps)) (labels_of q))
+      (λ q h. all_weaken (IsLabelIn ps) (IsLabelIn (p ∷ ps)) (λ l e. or_right (list_any (nat_eq l) (labels_of p)) (list_any (λ q. list_any (nat_eq l) (labels_of q)) ps) e) (labels_of q) h) ps (all_stand ps),
 )
 
 -- Blocks
@@ -138,13 +138,13 @@ labelled_block all from to ts ps b e =
     let block = block_within from to all in
     let names = names_from [] from block in
     let lined = aligned all (to - from) from in
-    let touched = block_touched (Numbered (Stands ps) all names) (parts_from from block) ts b (down (Stands ps) all names ts ps e (all_stand ps)) in
-    let own = all_named (λ n. Stands ps (number_among names n)) [] from block tt (named_at (λ n. Stands ps (number_among names n)) all from block lined touched) in
+    let touched = block_touched (Numbered (IsLabelIn ps) all names) (parts_from from block) ts b (down (IsLabelIn ps) all names ts ps e (all_stand ps)) in
+    let own = all_named (λ n. IsLabelIn ps (number_among names n)) [] from block tt (named_at (λ n. IsLabelIn ps (number_among names n)) all from block lined touched) in
     let each_name = numbered from block in
     let has = within_all names from block (each_has [] from block) in
     let placed = block_placed (Numbered (λ l. l < length names) all names) (parts_from from block) ts b (at_named (λ n. number_among names n < length names) all from block lined has) in
     record {
-      each = λ l h. subst (Stands ps) (each_name.each l h) (all_at (λ n. Stands ps (number_among names n)) names l own h);
+      each = λ l h. subst (IsLabelIn ps) (each_name.each l h) (all_at (λ n. IsLabelIn ps (number_among names n)) names l own h);
       places = up (λ l. l < length names) all names ts ps e placed;
     }
   where

@@ -11,13 +11,13 @@ abbrev pub labels_of : Pattern → List ℕ
 labels_of p = place_labels p.s ++ (place_labels p.p ++ place_labels p.o)
 
 -- a label stands in one of the patterns
-abbrev pub Stands : List Pattern → ℕ → Type 0
-Stands ps l = list_any (λ p. list_any (nat_eq l) (labels_of p)) ps ≡ true
+abbrev pub IsLabelIn : List Pattern → ℕ → Type 0
+IsLabelIn ps l = list_any (λ p. list_any (nat_eq l) (labels_of p)) ps ≡ true
 
 abbrev pub AllStanding : (ℕ → Type 0) → List Pattern → Type 0
 AllStanding R ps = AllByRecursion (λ p. AllByRecursion R (labels_of p)) ps
 
 -- of a block and its patterns, with the names of its tokens
 pub record IsLabelledBlock (names : List Name) (ps : List Pattern) : Type 0 where
-  pub each : (l : ℕ) → l < length names → Stands ps l
+  pub each : (l : ℕ) → l < length names → IsLabelIn ps l
   pub places : AllStanding (λ l. l < length names) ps

@@ -7,7 +7,7 @@ use Rattle.text_lines.specs.Lines.{Line, lines_of, whole_lines_of}
 use Rattle.tn_io.specs.CutterState as cutter
 use Rattle.tn_io.specs.CutterState.{told, line_told, to_come, whole_to_come}
 use Rattle.tn_io.specs.declared.cutter.Cut.{Cut}
-use Rattle.script_read.specs.ScriptState.{State, not_yet, IsOpen, HasTold, at_start}
+use Rattle.script_read.specs.ScriptState.{ScriptState, not_yet, IsOpen, HasTold, at_start}
 use Rattle.script_read.specs.ScriptCalls.{NextLine, Takes}
 use Rattle.script_read.specs.declared.script.ScriptFault.TheVariants.{Read, TooLong}
 
@@ -29,7 +29,7 @@ told_length None c n h = omega arith
 told_length (Some cut) c n h = omega arith
 
 -- some of the bytes ahead were cut
-pub cut_more : (s t : State) (n : ℕ) (r : Option Cut) → n ≤ length s.ahead → t.ahead ≡ drop n s.ahead → t.left ≡ s.left → t.over ≡ s.over → t.ended ≡ s.ended → IfSome r (λ _. 0 < n)
+pub cut_more : (s t : ScriptState) (n : ℕ) (r : Option Cut) → n ≤ length s.ahead → t.ahead ≡ drop n s.ahead → t.left ≡ s.left → t.over ≡ s.over → t.ended ≡ s.ended → IfSome r (λ _. 0 < n)
     → ((rest : List ℕ) → to_come s.cutter (take n s.ahead ++ rest) ≡ told r t.cutter ++ to_come t.cutter rest)
     → ((rest : List ℕ) → whole_to_come s.cutter (take n s.ahead ++ rest) ≡ told r t.cutter ++ whole_to_come t.cutter rest)
     → (max : ℕ) (taken : List ℕ) (ls : List Line) → IsOpen max s taken ls → IsOpen max t taken (ls ++ told r t.cutter)
@@ -51,7 +51,7 @@ cut_more s t n r within ahead left over ended some lines whole max taken ls h = 
   split rest = ap (λ z. z ++ rest) (sym (take-append-drop n s.ahead)) ∙ append_assoc (take n s.ahead) (drop n s.ahead) rest ∙ ap (λ z. take n s.ahead ++ (z ++ rest)) (sym ahead)
 
 -- nothing was taken
-pub takes_none : (before now : Option (List ℕ)) (s t : State) → now ≡ before → t ≡ s → Takes before now s t
+pub takes_none : (before now : Option (List ℕ)) (s t : ScriptState) → now ≡ before → t ≡ s → Takes before now s t
 takes_none before now s t e same = record {
   q = [];
   read = prepend_none before ∙ ap (prepend_known []) (sym e);
@@ -59,7 +59,7 @@ takes_none before now s t e same = record {
 }
 
 -- bytes were taken, where none were ahead
-pub takes_more : (before now : Option (List ℕ)) (s t : State) (q : List ℕ) → before ≡ prepend_known q now → s.ahead ≡ [] → s.over ≡ false
+pub takes_more : (before now : Option (List ℕ)) (s t : ScriptState) (q : List ℕ) → before ≡ prepend_known q now → s.ahead ≡ [] → s.over ≡ false
     → t.cutter ≡ s.cutter → t.ahead ≡ take s.left q → t.ended ≡ s.ended
     → (t.over ≡ false → length q + t.left ≡ s.left) → (t.over ≡ true → s.left < length q) → length t.ahead + t.left ≤ s.left → Takes before now s t
 takes_more before now s t q read none under same ahead ended room full fewer = record {
@@ -85,7 +85,7 @@ takes_more before now s t q read none under same ahead ended room full fewer = r
       };
 }
 
-pub takes_both : (a b c : Option (List ℕ)) (s t u : State) → Takes a b s t → Takes b c t u → Takes a c s u
+pub takes_both : (a b c : Option (List ℕ)) (s t u : ScriptState) → Takes a b s t → Takes b c t u → Takes a c s u
 takes_both a b c s t u f g = record {
   q = f.q ++ g.q;
   read = f.read ∙ ap (prepend_known f.q) g.read ∙ prepend_both c f.q g.q;
@@ -93,7 +93,7 @@ takes_both a b c s t u f g = record {
 }
 
 -- nothing was taken, and nothing told
-pub takes_same : (a : Option (List ℕ)) (s t : State) → ((max : ℕ) (taken : List ℕ) (ls : List Line) → IsOpen max s taken ls → IsOpen max t taken (ls ++ [])) → Takes a a s t
+pub takes_same : (a : Option (List ℕ)) (s t : ScriptState) → ((max : ℕ) (taken : List ℕ) (ls : List Line) → IsOpen max s taken ls → IsOpen max t taken (ls ++ [])) → Takes a a s t
 takes_same a s t f = record {
   q = [];
   read = prepend_none a;
@@ -103,12 +103,12 @@ takes_same a s t f = record {
 ended_isnt_open : (b : Bool) → b ≡ false → b ≡ true → {P : Type 0} → P
 ended_isnt_open b e f = absurd (let t : ⊥ = cc in t)
 
-module _ (before now : Option (List ℕ)) (s t : State) (takes : Takes before now s t) (still_open : s.ended ≡ false) where
+module _ (before now : Option (List ℕ)) (s t : ScriptState) (takes : Takes before now s t) (still_open : s.ended ≡ false) where
   by_open : (max : ℕ) (taken : List ℕ) (ls : List Line) (P : Type 0) → (IsOpen max t (taken ++ takes.q) ls → P) → HasTold max before s taken ls → P
   by_open max taken ls P f (inl h) = f (takes.still max taken ls h)
   by_open max taken ls P f (inr h) = ended_isnt_open s.ended still_open h.closed
 
-  pub next_is : (u : State) (cut : Cut) → ((max : ℕ) (taken : List ℕ) (ls : List Line) → IsOpen max t taken ls → IsOpen max u taken (ls ++ line_told cut u.cutter ∷ [])) → NextLine before now s u (Ok (Some cut))
+  pub next_is : (u : ScriptState) (cut : Cut) → ((max : ℕ) (taken : List ℕ) (ls : List Line) → IsOpen max t taken ls → IsOpen max u taken (ls ++ line_told cut u.cutter ∷ [])) → NextLine before now s u (Ok (Some cut))
   next_is u cut f = record { q = takes.q; read = takes.read; tells = λ max taken ls. by_open max taken ls _ (λ h. inl (f max (taken ++ takes.q) ls h)) }
 
   all_within : (max : ℕ) (taken : List ℕ) (ls : List Line) → t.over ≡ false → IsOpen max t (taken ++ takes.q) ls → (length (taken ++ takes.q) ≤ max) × (take max (taken ++ takes.q) ≡ taken ++ takes.q)
@@ -130,7 +130,7 @@ module _ (before now : Option (List ℕ)) (s t : State) (takes : Takes before no
   pub too_long : t.ahead ≡ [] → t.over ≡ true → whole_to_come t.cutter [] ≡ [] → NextLine before now s t (Err TooLong)
   too_long none over left = record { q = takes.q; read = takes.read; tells = λ max taken ls. by_open max taken ls _ (λ h. (whole_told max taken ls none left h, h.full over)) }
 
-  module _ (u : State) (none : t.ahead ≡ []) (under : t.over ≡ false) (at_end : IsAtEnd now) (ahead : u.ahead ≡ t.ahead) (left : u.left ≡ t.left) (ended : u.ended ≡ true) where
+  module _ (u : ScriptState) (none : t.ahead ≡ []) (under : t.over ≡ false) (at_end : IsAtEnd now) (ahead : u.ahead ≡ t.ahead) (left : u.left ≡ t.left) (ended : u.ended ≡ true) where
     lines_told : (max : ℕ) (taken : List ℕ) (ls : List Line) (more : List Line) → to_come t.cutter [] ≡ more → IsOpen max t (taken ++ takes.q) ls → lines_of (taken ++ takes.q) ≡ ls ++ more
     lines_told max taken ls more is h =
         let all = all_within max taken ls under h in
@@ -161,7 +161,7 @@ module _ (before now : Option (List ℕ)) (s t : State) (takes : Takes before no
     }
 
 -- after the last line nothing is read
-pub ended_is : (left : Option (List ℕ)) (s : State) → s.ended ≡ true → NextLine left left s s (Ok None)
+pub ended_is : (left : Option (List ℕ)) (s : ScriptState) → s.ended ≡ true → NextLine left left s s (Ok None)
 ended_is left s ended = record { q = []; read = prepend_none left; tells = tells } where
   tells : (max : ℕ) (taken : List ℕ) (ls : List Line) → HasTold max left s taken ls → (lines_of (taken ++ []) ≡ ls) × (length (taken ++ []) ≤ max) × IsAtEnd left
   tells max taken ls (inl h) = ended_isnt_open s.ended h.open_yet ended
@@ -218,20 +218,20 @@ pub never : {P : Type 0} (b : Bool) → b ≡ false → b ≡ true → P
 never b e f = absurd (let t : ⊥ = cc in t)
 
 -- A read to the front of the buffer gave `count` bytes, which may be more than the script may have.
-module _ (before now : Option (List ℕ)) (s v : State) (is : v ≡ s) (count : ℕ) (buf post : List ℕ) (read : before ≡ prepend_known (take count buf) now) (none : s.ahead ≡ []) (under : s.over ≡ false) (within : count ≤ length buf) where
+module _ (before now : Option (List ℕ)) (s v : ScriptState) (is : v ≡ s) (count : ℕ) (buf post : List ℕ) (read : before ≡ prepend_known (take count buf) now) (none : s.ahead ≡ []) (under : s.over ≡ false) (within : count ≤ length buf) where
   all_of : length (take count buf) ≡ count
   all_of = omega (arith, length-take count buf)
 
   pub refill_over : v.left < count → Takes before now s (record { cutter = v.cutter; ahead = take (v.left - 0) (drop 0 (buf ++ post)); left = 0; over = true; ended = v.ended })
   refill_over more =
       let same = read_ahead v.left count buf post (omega arith) within in
-      let t : State = record { cutter = v.cutter; ahead = take (v.left - 0) (drop 0 (buf ++ post)); left = 0; over = true; ended = v.ended } in
+      let t : ScriptState = record { cutter = v.cutter; ahead = take (v.left - 0) (drop 0 (buf ++ post)); left = 0; over = true; ended = v.ended } in
       subst (λ u. Takes before now u t) is (takes_more before now v t (take count buf) read (ap (λ u. u.ahead) is ∙ none) (ap (λ u. u.over) is ∙ under) refl same refl
       (λ e. never true e refl) (λ _. omega (arith, all_of)) (omega (arith, ap length same, length-take v.left (take count buf))))
 
   pub refill_more : count ≤ v.left → Takes before now s (record { cutter = v.cutter; ahead = take (count - 0) (drop 0 (buf ++ post)); left = v.left - count; over = v.over; ended = v.ended })
   refill_more few =
       let same = read_ahead count count buf post (omega arith) within ∙ take_all count (take count buf) (omega (arith, all_of)) ∙ sym (take_all v.left (take count buf) (omega (arith, all_of))) in
-      let t : State = record { cutter = v.cutter; ahead = take (count - 0) (drop 0 (buf ++ post)); left = v.left - count; over = v.over; ended = v.ended } in
+      let t : ScriptState = record { cutter = v.cutter; ahead = take (count - 0) (drop 0 (buf ++ post)); left = v.left - count; over = v.over; ended = v.ended } in
       subst (λ u. Takes before now u t) is (takes_more before now v t (take count buf) read (ap (λ u. u.ahead) is ∙ none) (ap (λ u. u.over) is ∙ under) refl same refl
       (λ _. omega (arith, all_of)) (λ e. never v.over (ap (λ u. u.over) is ∙ under) e) (omega (arith, all_of, ap length same, length-take v.left (take count buf))))

@@ -38,9 +38,9 @@ pub struct Script {
 
 impl Model for Script {
     ghost use Rattle.std.specs.Prelude.{◌≤◌, ◌-◌, take, drop};
-    ghost use Rattle.script_read.specs.ScriptState.{State};
+    ghost use Rattle.script_read.specs.ScriptState.{ScriptState};
 
-    ghost Value = { State };
+    ghost Value = { ScriptState };
 
     ghost view = { λ s. record { cutter = s.cutter; ahead = take (s.end - s.at) (drop s.at s.buffer); left = s.left; over = s.over; ended = s.ended } };
 

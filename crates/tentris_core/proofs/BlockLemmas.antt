@@ -16,11 +16,11 @@ use Rattle.run_model.specs.Steps.{Step, line_refusal, LineDoes}
 use Rattle.run_model.specs.Loads.{generated_sayings}
 use Rattle.tn_io.specs.FileFaults.{FaultCounts}
 use Rattle.rdf_model.specs.Graph.{Graph}
-use Rattle.graph_store.specs.State.{State, graph}
+use Rattle.graph_store.specs.StoreState.{StoreState, graph}
 use Rattle.line_batch.specs.declared.answer.Answer.{Answer}
 use Rattle.tentris_core.specs.declared.block.Block.{Block}
-use Rattle.tentris_core.specs.declared.block.Place.{Place}
-use Rattle.tentris_core.specs.declared.block.Place.TheVariants as place
+use Rattle.tentris_core.specs.declared.block.Progress.{Progress}
+use Rattle.tentris_core.specs.declared.block.Progress.TheVariants as place
 use Rattle.tentris_core.specs.declared.outcome.Outcome.{Outcome}
 use Rattle.tentris_core.specs.declared.outcome.Outcome.TheVariants.{GoesOn, Answered, Cut}
 use Rattle.line_batch.specs.Seen.{answer_of}
@@ -30,7 +30,7 @@ use Rattle.tentris_core.specs.Questions.{AnswersQuestion}
 use Rattle.tentris_core.specs.declared.question.Question.{Question}
 use Rattle.line_batch.specs.Batches as changed
 use Rattle.line_batch.specs.Batches.{MayBeScope, IsBatch, IsReady, IsCause, AreStaged, AreToGo, ChangesBy, ChangesStore}
-use Rattle.line_batch.specs.Sound.{IsSound}
+use Rattle.line_batch.specs.Sound.{IsBetweenCommands}
 use Rattle.line_batch.specs.Carrying.{Around, config_in, world_in, Carries}
 use Rattle.tentris_core.specs.Carrying.{around}
 use Rattle.tentris_core.specs.Places.{Position, Outside, Inside, IsBlock, IsAt, CarriesLine, EndsCommand, effects, LeadsTo, LeadsOn, MeetsLine, TakesLine}
@@ -47,7 +47,7 @@ use Rattle.tentris_core.proofs.TrafficLemmas.{counted_none}
 -- ---- what lines do, as commands
 
 -- lines of a block
-pub block_step : (A : Around) (s : State) (change : script.Change) (body : List Line) (t : State) (a : answers.Answer) → ChangesStore A.mixed s change (sayings [] body) t a
+pub block_step : (A : Around) (s : StoreState) (change : script.Change) (body : List Line) (t : StoreState) (a : answers.Answer) → ChangesStore A.mixed s change (sayings [] body) t a
     → Carries A s (script.Block (script.Triples change) body) t a None
 block_step A s change body t a h = record { step = by (graph t) a h.changes; refused = h.refused; sound = h.sound; max = h.max } where
   cfg : Config
@@ -65,7 +65,7 @@ block_step A s change body t a h = record { step = by (graph t) a h.changes; ref
   by _ _ changed.no_memory = steps.no_memory c (λ e. let t : ⊥ = cc in t)
 
 -- a line that changes nothing, and is answered
-pub answer_step : (A : Around) (s : State) (c : script.OneLine) (a : answers.Answer) → IsSound A.mixed s → line_refusal (config_in A s) (world_in A s) c ≡ None → LineDoes (config_in A s) (world_in A s) c (graph s) a → is_refused a ≡ false
+pub answer_step : (A : Around) (s : StoreState) (c : script.OneLine) (a : answers.Answer) → IsBetweenCommands A.mixed s → line_refusal (config_in A s) (world_in A s) c ≡ None → LineDoes (config_in A s) (world_in A s) c (graph s) a → is_refused a ≡ false
     → Carries A s (script.Single c) s a None
 answer_step A s c a sound can does good = record {
   step = steps.done (script.Single c) (graph s) a can does;
@@ -77,11 +77,11 @@ answer_step A s c a sound can does good = record {
   clash e = let t : ⊥ = cc in t
 
 -- memory ran out for a command
-pub memory_step : (A : Around) (s : State) (c : script.OneLine) → IsSound A.mixed s → Carries A s (script.Single c) s (answers.Refused answers.NoMemory) None
+pub memory_step : (A : Around) (s : StoreState) (c : script.OneLine) → IsBetweenCommands A.mixed s → Carries A s (script.Single c) s (answers.Refused answers.NoMemory) None
 memory_step A s c sound = record { step = steps.no_memory (script.Single c) (λ e. let t : ⊥ = cc in t); refused = λ _. refl; sound = sound; max = refl }
 
 -- generated triples
-pub generate_step : (A : Around) (s : State) (count salt : ℕ) (t : State) (a : answers.Answer) → ChangesStore A.mixed s script.Inserts (generated_sayings count salt) t a
+pub generate_step : (A : Around) (s : StoreState) (count salt : ℕ) (t : StoreState) (a : answers.Answer) → ChangesStore A.mixed s script.Inserts (generated_sayings count salt) t a
     → Carries A s (script.Single (script.Generate count salt)) t a None
 generate_step A s count salt t a h = record { step = by (graph t) a h.changes; refused = h.refused; sound = h.sound; max = h.max } where
   cfg : Config
@@ -99,11 +99,11 @@ generate_step A s count salt t a h = record { step = by (graph t) a h.changes; r
   by _ _ changed.no_memory = steps.no_memory c (λ e. let t : ⊥ = cc in t)
 
 -- a store that is sound by the mix of the program is so by that of what stands around it
-pub sound_of : (A : Around) {mixed : ℕ → ℕ → ℕ → ℕ → ℕ} {sorted : Bool} {most : ℕ} {files : Option FileMap} {s : State} → A ≡ around mixed sorted most files → IsSound mixed s → IsSound A.mixed s
-sound_of A {mixed} {sorted} {most} {files} {s} is sound = subst (λ z. IsSound z s) (sym (ap (λ z. z.mixed) is)) sound
+pub sound_of : (A : Around) {mixed : ℕ → ℕ → ℕ → ℕ → ℕ} {sorted : Bool} {most : ℕ} {files : Option FileMap} {s : StoreState} → A ≡ around mixed sorted most files → IsBetweenCommands mixed s → IsBetweenCommands A.mixed s
+sound_of A {mixed} {sorted} {most} {files} {s} is sound = subst (λ z. IsBetweenCommands z s) (sym (ap (λ z. z.mixed) is)) sound
 
-pub generate_of : (A : Around) {mixed : ℕ → ℕ → ℕ → ℕ → ℕ} {sorted : Bool} {most : ℕ} {files : Option FileMap} {s t : State} {count salt : ℕ} {a : answers.Answer} → A ≡ around mixed sorted most files → IsSound mixed s
-    → (IsSound mixed s → ChangesStore mixed s script.Inserts (generated_sayings count salt) t a) → Carries A s (script.Single (script.Generate count salt)) t a None
+pub generate_of : (A : Around) {mixed : ℕ → ℕ → ℕ → ℕ → ℕ} {sorted : Bool} {most : ℕ} {files : Option FileMap} {s t : StoreState} {count salt : ℕ} {a : answers.Answer} → A ≡ around mixed sorted most files → IsBetweenCommands mixed s
+    → (IsBetweenCommands mixed s → ChangesStore mixed s script.Inserts (generated_sayings count salt) t a) → Carries A s (script.Single (script.Generate count salt)) t a None
 generate_of A {mixed} {sorted} {most} {files} {s} {t} {count} {salt} {a} is sound h =
     generate_step A s count salt t a (subst (λ z. ChangesStore z s script.Inserts (generated_sayings count salt) t a) (sym (ap (λ z. z.mixed) is)) (h sound))
 
@@ -128,11 +128,11 @@ counted_of before now (Some read) h = record { none = λ e. let t : ⊥ = cc in 
       let none : times_failed name place (read ∷ []) ≡ 0 = rw y refl in
       subst (λ n. RoseBy n (before name place) (now name place)) (sym none) (let late = h.1 name place in omega (arith, late))
 
-pub reads_line : {A : Around} {s t : State} {c : script.OneLine} {a : answers.Answer} {before now : FaultCounts} → loads.CarriesReads A s (script.Single c) t a before now → CarriesLine A s c t a before now
+pub reads_line : {A : Around} {s t : StoreState} {c : script.OneLine} {a : answers.Answer} {before now : FaultCounts} → loads.CarriesReads A s (script.Single c) t a before now → CarriesLine A s c t a before now
 reads_line {A} {s} {t} {c} {a} {before} {now} h = record { failed = h.failed; carries = h.carries; counted = counted_of before now h.failed h.counted }
 
 -- a line that reads no file
-pub reads_none : {A : Around} {s t : State} {c : script.OneLine} {a : answers.Answer} (faults : FaultCounts) → Carries A s (script.Single c) t a None → CarriesLine A s c t a faults faults
+pub reads_none : {A : Around} {s t : StoreState} {c : script.OneLine} {a : answers.Answer} (faults : FaultCounts) → Carries A s (script.Single c) t a None → CarriesLine A s c t a faults faults
 reads_none faults carries = record { failed = None; carries = carries; counted = counted_none faults }
 
 -- ---- what the forms of lines bound
@@ -170,18 +170,18 @@ form_count t count salt e = by t (script.Whole (script.Generate count salt)) ((f
 
 -- ---- places
 
-pub record IsInside (s now : State) (block : Block) : Type 0 where
+pub record IsInside (s now : StoreState) (block : Block) : Type 0 where
   pub change : script.Change
   pub body : List Line
   pub is : IsBlock s change body now block
 
-pub inside_at : (p : Position) (s now : State) (block : Block) → IsAt p s now (place.Inside block) → IsInside s now block
+pub inside_at : (p : Position) (s now : StoreState) (block : Block) → IsAt p s now (place.Inside block) → IsInside s now block
 inside_at Outside s now block h = absurd h
 inside_at (Inside script.Question body) s now block h = absurd h
 inside_at (Inside (script.Triples change) body) s now block h = record { change = change; body = body; is = h }
 
 -- a place in a query leaves the store as it was
-pub asks_at : (p : Position) (s now : State) (question : Question) → IsAt p s now (place.Asks question) → now ≡ s
+pub asks_at : (p : Position) (s now : StoreState) (question : Question) → IsAt p s now (place.Asks question) → now ≡ s
 asks_at Outside s now question h = absurd h
 asks_at (Inside (script.Triples change) body) s now question h = absurd h
 asks_at (Inside script.Question body) s now question h = h.0
@@ -191,7 +191,7 @@ asks_at (Inside script.Question body) s now question h = h.0
 of_form : (l : Line) → false ≡ script.skipped l → (rest : List Line) → script.outside (l ∷ rest) ≡ script.from_form (script.form_of l) (script.outside rest) (λ kind. script.inside kind [] rest)
 of_form l told rest = ap (λ b. cond b (script.outside rest) (script.from_form (script.form_of l) (script.outside rest) (λ kind. script.inside kind [] rest))) (sym told)
 
-module _ (A : Around) (l : Line) (s : State) where
+module _ (A : Around) (l : Line) (s : StoreState) where
   -- a line that says nothing
   pub meets_note : (faults : FaultCounts) → true ≡ script.skipped l → MeetsLine A Outside l s s place.Outside faults faults None
   meets_note faults told = record {
@@ -203,7 +203,7 @@ module _ (A : Around) (l : Line) (s : State) where
   }
 
   -- a line that is a whole command
-  pub meets_command : (c : script.OneLine) (t : State) (a : Answer) (before now : FaultCounts) → false ≡ script.skipped l → Some (script.Whole c) ≡ script.form_of l → CarriesLine A s c t (answer_of a) before now
+  pub meets_command : (c : script.OneLine) (t : StoreState) (a : Answer) (before now : FaultCounts) → false ≡ script.skipped l → Some (script.Whole c) ≡ script.form_of l → CarriesLine A s c t (answer_of a) before now
       → MeetsLine A Outside l s t place.Outside before now (Some a)
   meets_command c t a before now told form line = record {
     next = Outside;
@@ -226,7 +226,7 @@ module _ (A : Around) (l : Line) (s : State) where
   }
 
   -- a line that is no command
-  pub meets_bad : (a : Answer) (faults : FaultCounts) → answer_of a ≡ answers.Refused answers.NoCommand → false ≡ script.skipped l → None ≡ script.form_of l → IsSound A.mixed s → MeetsLine A Outside l s s place.Outside faults faults (Some a)
+  pub meets_bad : (a : Answer) (faults : FaultCounts) → answer_of a ≡ answers.Refused answers.NoCommand → false ≡ script.skipped l → None ≡ script.form_of l → IsBetweenCommands A.mixed s → MeetsLine A Outside l s s place.Outside faults faults (Some a)
   meets_bad a faults is told form sound = record {
     next = Outside;
     after = s;
@@ -248,7 +248,7 @@ module _ (A : Around) (l : Line) (s : State) where
   }
 
   -- a line that begins a block
-  pub meets_begin : (kind : script.Kind) (q : Place) (faults : FaultCounts) → false ≡ script.skipped l → Some (script.Begins kind) ≡ script.form_of l → IsAt (Inside kind []) s s q → MeetsLine A Outside l s s q faults faults None
+  pub meets_begin : (kind : script.Kind) (q : Progress) (faults : FaultCounts) → false ≡ script.skipped l → Some (script.Begins kind) ≡ script.form_of l → IsAt (Inside kind []) s s q → MeetsLine A Outside l s s q faults faults None
   meets_begin kind q faults told form at = record {
     next = Inside kind [];
     after = s;
@@ -267,7 +267,7 @@ pub goes_on : (l : Line) (kind : script.Kind) (body : List Line) → false ≡ s
 goes_on l kind body told rest = ap (λ b. cond b (script.Block kind body ∷ script.outside rest) (script.inside kind (body ++ l ∷ []) rest)) (sym told)
 
 -- the line that ends a query, and its answer
-pub question_leads : (A : Around) (l : Line) (body : List Line) (s : State) (before now : Option (List ℕ)) (faults : FaultCounts) (outcome : Outcome) → true ≡ script.ends_block l → AnswersQuestion A body s before now outcome
+pub question_leads : (A : Around) (l : Line) (body : List Line) (s : StoreState) (before now : Option (List ℕ)) (faults : FaultCounts) (outcome : Outcome) → true ≡ script.ends_block l → AnswersQuestion A body s before now outcome
     → LeadsOn A (Inside script.Question body) l s Outside s (effects before faults) (effects now faults) outcome
 question_leads A l body s before now faults outcome is_end h = by outcome h.writes where
   ends : EndsCommand A (Inside script.Question body) l s Outside s
@@ -290,7 +290,7 @@ sayings_length (m ∷ body) = omega (arith, sayings_length body)
 -- ---- what is passed on
 
 -- a line, and then its answer
-pub takes_told : (A : Around) (p : Position) (l : Line) (s now : State) (q : Place) (answer : Option Answer) (before after : Option (List ℕ)) (f g : FaultCounts) (outcome : Outcome)
+pub takes_told : (A : Around) (p : Position) (l : Line) (s now : StoreState) (q : Progress) (answer : Option Answer) (before after : Option (List ℕ)) (f g : FaultCounts) (outcome : Outcome)
     → MeetsLine A p l s now q f g answer → Tells before after outcome answer → TakesLine A p l s now q (effects before f) (effects after g) outcome
 takes_told A p l s now q answer before after f g outcome m t = record { next = m.next; after = m.after; is_at = m.is_at; leads = by answer m.leads outcome t; had = m.had } where
   some : (a : Answer) (e : EndsCommand A p l s m.next m.after) → e.answer ≡ answer_of a → IsCounted f g e.failed → (o : Outcome) → WritesAnswer before after o (answer_of a) → LeadsOn A p l s m.next m.after (effects before f) (effects after g) o

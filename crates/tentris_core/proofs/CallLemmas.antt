@@ -6,8 +6,8 @@ use Rattle.std.specs.declared.option.Option.{Option}
 use Rattle.file_model.specs.FileMap.{FileMap}
 use Rattle.command_words.specs.Answers as words
 use Rattle.command_words.specs.declared.Settings.{Settings}
-use Rattle.graph_store.specs.State.{State}
-use Rattle.line_batch.specs.Sound.{IsSound}
+use Rattle.graph_store.specs.StoreState.{StoreState}
+use Rattle.line_batch.specs.Sound.{IsBetweenCommands}
 use Rattle.tentris_core.specs.Carrying.{around}
 use Rattle.tentris_core.specs.Traffic.{Traffic}
 use Rattle.tentris_core.specs.Runs.{Ends}
@@ -15,9 +15,9 @@ use Rattle.tentris_core.specs.Called.{around_by, bounded_by, WritesHelp, Helps, 
 use Rattle.tentris_core.specs.declared.running.Status.{Status}
 use Rattle.tentris_core.specs.declared.running.Status.TheVariants.{Done, SomeRefused, BadWords, ReadFault, WriteFault, Memory, TooLong}
 
-module _ (mixed : ℕ → ℕ → ℕ → ℕ → ℕ) (files : Option FileMap) (s : State) where
+module _ (mixed : ℕ → ℕ → ℕ → ℕ → ℕ) (files : Option FileMap) (s : StoreState) where
   -- a script was carried out
-  pub script_ends : (settings : Settings) (status : Status) (t : State) (before now : Traffic) → (status ≡ BadWords → ⊥) → (status ≡ Memory → ⊥)
+  pub script_ends : (settings : Settings) (status : Status) (t : StoreState) (before now : Traffic) → (status ≡ BadWords → ⊥) → (status ≡ Memory → ⊥)
       → Ends status (around_by settings mixed files) (bounded_by settings s) t before now → EndsScript settings status mixed files s t before now
   script_ends settings Done t before now words memory h = h
   script_ends settings SomeRefused t before now words memory h = h
@@ -28,7 +28,7 @@ module _ (mixed : ℕ → ℕ → ℕ → ℕ → ℕ) (files : Option FileMap) 
   script_ends settings TooLong t before now words memory h = h
 
   -- the same by what stands around, and by the store that was bounded
-  pub script_ends_of : (settings : Settings) {sorted : Bool} {most : ℕ} {z : State} (status : Status) (t : State) (before now : Traffic) → sorted ≡ settings.sort → most ≡ settings.max_bytes → z ≡ bounded_by settings s
+  pub script_ends_of : (settings : Settings) {sorted : Bool} {most : ℕ} {z : StoreState} (status : Status) (t : StoreState) (before now : Traffic) → sorted ≡ settings.sort → most ≡ settings.max_bytes → z ≡ bounded_by settings s
       → (status ≡ BadWords → ⊥) → (status ≡ Memory → ⊥) → Ends status (around mixed sorted most files) z t before now → EndsScript settings status mixed files s t before now
   script_ends_of settings {sorted} {most} {z} status t before now sort bytes bounded words memory h =
       script_ends settings status t before now words memory
@@ -58,12 +58,12 @@ module _ (mixed : ℕ → ℕ → ℕ → ℕ → ℕ) (files : Option FileMap) 
     by (inl e) = subst (λ z. EndsHelp z s s before (record before { written = written })) (sym e) helps
     by (inr e) = subst (λ z. EndsHelp z s s before (record before { written = written })) (sym e) helps
 
-  pub call_script : (answer : words.Answer) (settings : Settings) (status : Status) (t : State) (before now : Traffic) → answer ≡ words.accepts settings → EndsScript settings status mixed files s t before now
+  pub call_script : (answer : words.Answer) (settings : Settings) (status : Status) (t : StoreState) (before now : Traffic) → answer ≡ words.accepts settings → EndsScript settings status mixed files s t before now
       → EndsCall answer status mixed files s t before now
   call_script answer settings status t before now is h = subst (λ a. EndsCall a status mixed files s t before now) (sym is) h
 
 -- what a status says of the words
-pub by_words : (answer : words.Answer) (status : Status) (mixed : ℕ → ℕ → ℕ → ℕ → ℕ) (files : Option FileMap) (s t : State) (before now : Traffic) → EndsCall answer status mixed files s t before now → IsByWords answer status
+pub by_words : (answer : words.Answer) (status : Status) (mixed : ℕ → ℕ → ℕ → ℕ → ℕ) (files : Option FileMap) (s t : StoreState) (before now : Traffic) → EndsCall answer status mixed files s t before now → IsByWords answer status
 by_words (words.accepts settings) status mixed files s t before now h = record { only = λ e. absurd (no status e h); refused = λ e. let x : ⊥ = cc in absurd x } where
   no : (status : Status) → status ≡ BadWords → EndsScript settings status mixed files s t before now → ⊥
   no BadWords e h = h
@@ -98,7 +98,7 @@ writes_help (Some before) None status is h = absurd h
 writes_help (Some before) (Some now) status is h = (is, h.0, ap Some h.1)
 
 -- a store that is sound is so whatever it may have
-pub sound_bounded : {mixed : ℕ → ℕ → ℕ → ℕ → ℕ} (settings : Settings) (s : State) → IsSound mixed s → IsSound mixed (bounded_by settings s)
+pub sound_bounded : {mixed : ℕ → ℕ → ℕ → ℕ → ℕ} (settings : Settings) (s : StoreState) → IsBetweenCommands mixed s → IsBetweenCommands mixed (bounded_by settings s)
 sound_bounded settings s h = record {
   settled = h.settled;
   stands = record {

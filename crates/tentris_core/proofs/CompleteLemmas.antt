@@ -16,7 +16,7 @@ use Rattle.run_model.specs.Steps as steps
 use Rattle.run_model.specs.Steps.{Step, Does, LineDoes, refusal_of, or_none, failed_reads}
 use Rattle.tn_io.specs.Causes.{Rose}
 use Rattle.tn_io.specs.FileFaults.{FaultCounts}
-use Rattle.graph_store.specs.State.{State}
+use Rattle.graph_store.specs.StoreState.{StoreState}
 use Rattle.line_batch.specs.Carrying.{Around, config_in, world_in}
 use Rattle.tentris_core.specs.Carrying.{StoreEvent, events_in, CarriesAll}
 use Rattle.tentris_core.specs.Traffic.{is_read, times_failed, RoseBy, AreCounted}
@@ -74,7 +74,7 @@ raised read front behind before now h =
       of : (x y n a b : ℕ) → n ≡ x + (1 + y) → RoseBy n a b → Rose a b
       of x y n a b e r = omega (arith, e, r)
 
-complete_from : (A : Around) (s t : State) (front : List FailedRead) (trace : List StoreEvent) (before now : FaultCounts) → CarriesAll A s trace t → AreFree A s trace
+complete_from : (A : Around) (s t : StoreState) (front : List FailedRead) (trace : List StoreEvent) (before now : FaultCounts) → CarriesAll A s trace t → AreFree A s trace
     → AreCounted before now (front ++ failed_reads (events_in A trace)) → AreUnraised before now trace → AreDone trace
 complete_from A s t front [] before now all free counted still = tt
 complete_from A s t front (e ∷ trace) before now all free counted still =

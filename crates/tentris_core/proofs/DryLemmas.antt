@@ -11,7 +11,7 @@ use Rattle.tn_io.specs.FileFaults.{FaultCounts}
 use Rattle.tn_io.specs.MemoryFiles.{pure_files, pure_faults, missing_count}
 use Rattle.tn_io.specs.declared.memory_files.PureFiles.{PureFiles}
 use Rattle.command_words.specs.Answers as words
-use Rattle.graph_store.specs.State.{State}
+use Rattle.graph_store.specs.StoreState.{StoreState}
 use Rattle.line_batch.specs.Carrying.{Around}
 use Rattle.tentris_core.specs.Carrying.{StoreEvent, events_in}
 use Rattle.tentris_core.specs.Traffic.{Traffic, AreCounted}
@@ -50,7 +50,7 @@ module _ (files : FileMap) (before now : FaultCounts) (missing : (name : Text) (
     of None h = tt
     of (Some read) h = missing read.name read.place (raised read past (failed_reads (events_in A trace)) before now h)
 
-  pub carried_missing : (A : Around) (s t : State) (o p : Traffic) (trace : List StoreEvent) → CarriesOut A s t o p trace → o.faults ≡ before → p.faults ≡ now
+  pub carried_missing : (A : Around) (s t : StoreState) (o p : Traffic) (trace : List StoreEvent) → CarriesOut A s t o p trace → o.faults ≡ before → p.faults ≡ now
       → FailOnlyMissing files trace
   carried_missing A s t o p _ (whole refused runs) was is =
       fail_missing A [] runs.trace (subst (λ f. AreCounted f now (failed_reads (events_in A runs.trace))) was (subst (λ f. AreCounted o.faults f (failed_reads (events_in A runs.trace))) is runs.watched.counted))
@@ -58,7 +58,7 @@ module _ (files : FileMap) (before now : FaultCounts) (missing : (name : Text) (
       fail_missing A [] runs.trace (subst (λ f. AreCounted f now (failed_reads (events_in A runs.trace))) was (subst (λ f. AreCounted o.faults f (failed_reads (events_in A runs.trace))) is runs.watched.counted))
 
 -- what a call over files in memory says
-pub dry_call : (answer : words.Answer) (status : Status) (mixed : ℕ → ℕ → ℕ → ℕ → ℕ) (s t : State) (script left : List ℕ) (f g : PureFiles) → Some (pure_files g) ≡ Some (pure_files f)
+pub dry_call : (answer : words.Answer) (status : Status) (mixed : ℕ → ℕ → ℕ → ℕ → ℕ) (s t : StoreState) (script left : List ℕ) (f g : PureFiles) → Some (pure_files g) ≡ Some (pure_files f)
     → EndsCall answer status mixed (Some (pure_files f)) s t (unheard script (pure_faults f)) (unheard left (pure_faults g))
     → DryCall answer status mixed (pure_files f) s t script (pure_faults f) (pure_faults g)
 dry_call answer status mixed s t script left f g same ends = record {

@@ -18,14 +18,14 @@ use Rattle.script_model.specs.Commands as script
 use Rattle.run_model.specs.Answers as model
 use Rattle.run_model.specs.Questions.{fault_refusal, question_refusal}
 use Rattle.run_model.specs.Steps as steps
-use Rattle.graph_store.specs.State.{State, graph}
+use Rattle.graph_store.specs.StoreState.{StoreState, graph}
 use Rattle.answer_text.specs.declared.Refusal.{Refusal}
 use Rattle.answer_text.specs.declared.Refusal.TheVariants as cause
 use Rattle.answer_text.specs.Seen.{refusal_of}
 use Rattle.tentris_core.specs.declared.question.Question.TheVariants.{Refused}
 use Rattle.tentris_core.specs.declared.outcome.Outcome.{Outcome}
 use Rattle.tentris_core.specs.Puts.{WritesAnswer}
-use Rattle.line_batch.specs.Sound.{IsSound}
+use Rattle.line_batch.specs.Sound.{IsBetweenCommands}
 use Rattle.line_batch.specs.Carrying.{Around, Carries}
 use Rattle.tentris_core.specs.Questions.{IsGathered, IsFault, AnswersQuestion}
 use Rattle.query_plan.specs.declared.query.Query as plan
@@ -136,7 +136,7 @@ refused_more body l cause.Unended h = absurd h
 
 -- Answers
 
-module _ (A : Around) (s : State) (body : List Line) (sound : IsSound A.mixed s) where
+module _ (A : Around) (s : StoreState) (body : List Line) (sound : IsBetweenCommands A.mixed s) where
   lacks : Carries A s (script.Block script.Question body) s (model.Refused model.NoMemory) None
   lacks = record { step = steps.no_memory (script.Block script.Question body) (λ e. let f : ⊥ = cc in f); refused = λ _. refl; sound = sound; max = refl }
 

@@ -11,22 +11,22 @@ use Rattle.run_model.specs.Answers.{answer_text, is_refused, Refused, EndInBlock
 use Rattle.run_model.specs.Steps as steps
 use Rattle.run_model.specs.Steps.{commands_in, text_of, some_refused}
 use Rattle.rdf_model.specs.Dumps.{dump_lines}
-use Rattle.graph_store.specs.State as store
-use Rattle.graph_store.specs.State.{IsSettled, graph}
+use Rattle.graph_store.specs.StoreState as store
+use Rattle.graph_store.specs.StoreState.{IsSettled, graph}
 use Rattle.graph_store.specs.Watching.{IsShown}
 use Rattle.tn_io.specs.CutterState.{line_told, whole_to_come}
 use Rattle.tn_io.specs.declared.cutter.Cut.{Cut}
 use Rattle.tn_io.proofs.KnownLemmas.{append_known-append}
-use Rattle.script_read.specs.ScriptState.{State, HasTold, at_start}
+use Rattle.script_read.specs.ScriptState.{ScriptState, HasTold, at_start}
 use Rattle.script_read.specs.ScriptCalls.{NextLine}
 use Rattle.script_read.specs.declared.script.ScriptFault.{ScriptFault}
 use Rattle.script_read.specs.declared.script.ScriptFault.TheVariants as fault
 use Rattle.script_read.proofs.ScriptLemmas.{at_start_is}
-use Rattle.tentris_core.specs.declared.block.Place.{Place}
-use Rattle.tentris_core.specs.declared.block.Place.TheVariants as place
+use Rattle.tentris_core.specs.declared.block.Progress.{Progress}
+use Rattle.tentris_core.specs.declared.block.Progress.TheVariants as place
 use Rattle.tentris_core.specs.declared.outcome.Outcome.{Outcome}
 use Rattle.tentris_core.specs.declared.outcome.Outcome.TheVariants.{GoesOn, Answered, Cut as CutOff}
-use Rattle.line_batch.specs.Sound.{IsSound}
+use Rattle.line_batch.specs.Sound.{IsBetweenCommands}
 use Rattle.line_batch.specs.Carrying.{Around}
 use Rattle.tentris_core.specs.Carrying.{around, StoreEvent, events_in, CarriesAll}
 use Rattle.tentris_core.specs.Places.{Position, Outside, Inside, IsAt, IsReadyAt, HasBeen, EndsCommand, Effects, effects, TakesLine, commands_from, lines_had, lines_in}
@@ -43,10 +43,10 @@ use Rattle.tentris_core.proofs.TrafficLemmas.{was_shown, counted_none, watched_n
 
 -- Where a run stands between two lines: what was told of the bytes taken, and the commands that were carried out. The store was `from` at
 -- first, and is `held`.
-pub record HasRun (A : Around) (from held : store.State) (before now : Traffic) (s : State) (place : Place) (refused : Bool) : Type 0 where
+pub record HasRun (A : Around) (from held : store.StoreState) (before now : Traffic) (s : ScriptState) (place : Progress) (refused : Bool) : Type 0 where
   -- the store after the last command
-  pub last : store.State
-  pub sound : IsSound A.mixed last
+  pub last : store.StoreState
+  pub sound : IsBetweenCommands A.mixed last
   pub taken : List ℕ
   pub told : List Line
   pub trace : List StoreEvent
@@ -71,7 +71,7 @@ prepend_both None p q = refl
 prepend_both (Some a) p q = ap Some (sym (append_assoc p q a))
 
 -- nothing was read yet
-pub run_starts : (A : Around) (from : store.State) (o : Traffic) (s : State) → IsSound A.mixed from → s ≡ at_start A.most_bytes → HasRun A from from o o s place.Outside false
+pub run_starts : (A : Around) (from : store.StoreState) (o : Traffic) (s : ScriptState) → IsBetweenCommands A.mixed from → s ≡ at_start A.most_bytes → HasRun A from from o o s place.Outside false
 run_starts A from o s sound is = record {
   last = from;
   sound = sound;
@@ -92,8 +92,8 @@ run_starts A from o s sound is = record {
 }
 
 -- a store that can carry out what its place holds
-pub ready : {mixed : ℕ → ℕ → ℕ → ℕ → ℕ} (p : Position) (s held : store.State) (q : Place) → IsSound mixed s → IsAt p s held q → IsReadyAt mixed held q
-ready {mixed} Outside s held place.Outside sound at = subst (IsSound mixed) (sym at) sound
+pub ready : {mixed : ℕ → ℕ → ℕ → ℕ → ℕ} (p : Position) (s held : store.StoreState) (q : Progress) → IsBetweenCommands mixed s → IsAt p s held q → IsReadyAt mixed held q
+ready {mixed} Outside s held place.Outside sound at = subst (IsBetweenCommands mixed) (sym at) sound
 ready {mixed} Outside s held (place.Inside block) sound at = absurd at
 ready {mixed} (Inside kind body) s held place.Outside sound at = absurd at
 ready {mixed} (Inside Question body) s held (place.Inside block) sound at = absurd at
@@ -121,7 +121,7 @@ none_closed : (p : Position) → filter is_closed (commands_from p []) ≡ []
 none_closed Outside = refl
 none_closed (Inside change body) = refl
 
-module _ (A : Around) (from held : store.State) (before now : Traffic) (s : State) (spot : Place) (refused : Bool) (h : HasRun A from held before now s spot refused) where
+module _ (A : Around) (from held : store.StoreState) (before now : Traffic) (s : ScriptState) (spot : Progress) (refused : Bool) (h : HasRun A from held before now s spot refused) where
   abbrev max : ℕ
   max = A.most_bytes
 
@@ -135,7 +135,7 @@ module _ (A : Around) (from held : store.State) (before now : Traffic) (s : Stat
     short (inl t) = let few = t.few in omega arith
     short (inr t) = let few = t.few in omega arith
 
-    by : (p : Position) (q : Place) → IsAt p h.last held q → lines_had p ≤ length h.told → HasTold A.most_bytes now.left s h.taken h.told → lines_in q ≤ A.most_bytes + 1
+    by : (p : Position) (q : Progress) → IsAt p h.last held q → lines_had p ≤ length h.told → HasTold A.most_bytes now.left s h.taken h.told → lines_in q ≤ A.most_bytes + 1
     by Outside place.Outside a le t = omega arith
     by Outside (place.Inside block) a le t = absurd a
     by (Inside kind body) place.Outside a le t = absurd a
@@ -155,7 +155,7 @@ module _ (A : Around) (from held : store.State) (before now : Traffic) (s : Stat
   reading left = record now { left = left }
 
   -- a read failed
-  pub run_fails : (l2 : Option (List ℕ)) (t : State) → NextLine now.left l2 s t (Err fault.Read) → RunsTaken A from h.last before (reading l2)
+  pub run_fails : (l2 : Option (List ℕ)) (t : ScriptState) → NextLine now.left l2 s t (Err fault.Read) → RunsTaken A from h.last before (reading l2)
   run_fails l2 t n =
       let tells = n.tells max h.taken h.told h.tells in
       record {
@@ -170,7 +170,7 @@ module _ (A : Around) (from held : store.State) (before now : Traffic) (s : Stat
       }
 
   -- the script is too long
-  pub run_too_long : (l2 : Option (List ℕ)) (t : State) → NextLine now.left l2 s t (Err fault.TooLong) → RunsFront A from h.last before (reading l2)
+  pub run_too_long : (l2 : Option (List ℕ)) (t : ScriptState) → NextLine now.left l2 s t (Err fault.TooLong) → RunsFront A from h.last before (reading l2)
   run_too_long l2 t n =
       let tells = n.tells max h.taken h.told h.tells in
       record {
@@ -185,7 +185,7 @@ module _ (A : Around) (from held : store.State) (before now : Traffic) (s : Stat
       }
 
   -- the script ends outside a block
-  pub run_ends : (o2 : Traffic) (t : State) → spot ≡ place.Outside → NextLine now.left o2.left s t (Ok None) → o2.written ≡ now.written → o2.shown ≡ now.shown → o2.faults ≡ now.faults → RunsAll A refused from h.last before o2
+  pub run_ends : (o2 : Traffic) (t : ScriptState) → spot ≡ place.Outside → NextLine now.left o2.left s t (Ok None) → o2.written ≡ now.written → o2.shown ≡ now.shown → o2.faults ≡ now.faults → RunsAll A refused from h.last before o2
   run_ends o2 t is n written shown faults =
       let tells = n.tells max h.taken h.told h.tells in
       record {
@@ -205,7 +205,7 @@ module _ (A : Around) (from held : store.State) (before now : Traffic) (s : Stat
         none_left (Inside kind body) a = absurd a
 
   -- the script ends inside a block
-  module _ (o2 : Traffic) (t : State) (left : commands_from h.position [] ≡ Unended ∷ []) (n : NextLine now.left o2.left s t (Ok None)) (shown : WasShown now.shown o2.shown (dump_lines (graph h.last) ∷ [])) (faults : o2.faults ≡ now.faults) where
+  module _ (o2 : Traffic) (t : ScriptState) (left : commands_from h.position [] ≡ Unended ∷ []) (n : NextLine now.left o2.left s t (Ok None)) (shown : WasShown now.shown o2.shown (dump_lines (graph h.last) ∷ [])) (faults : o2.faults ≡ now.faults) where
     unended : commands_of (lines_of (h.taken ++ n.q)) ≡ did ++ Unended ∷ []
     unended = ap commands_of (n.tells max h.taken h.told h.tells).0 ∙ all_commands ∙ ap (λ z. did ++ z) left
 
@@ -260,7 +260,7 @@ module _ (A : Around) (from held : store.State) (before now : Traffic) (s : Stat
     }
 
   -- one more line; `then` is what has gone in and out behind it
-  module _ (then : Traffic) (t : State) (cut : Cut) (n : NextLine now.left then.left s t (Ok (Some cut))) (kept : store.State) (q : Place) where
+  module _ (then : Traffic) (t : ScriptState) (cut : Cut) (n : NextLine now.left then.left s t (Ok (Some cut))) (kept : store.StoreState) (q : Progress) where
     next_read : before.left ≡ prepend_known (h.taken ++ n.q) then.left
     next_read = h.read ∙ ap (prepend_known h.taken) n.read ∙ prepend_both then.left h.taken n.q
 
@@ -278,7 +278,7 @@ module _ (A : Around) (from held : store.State) (before now : Traffic) (s : Stat
         let faults : then.faults ≡ now.faults = ap (λ z. z.faults) same in
         record {
           last = k.after;
-          sound = subst (IsSound A.mixed) (sym k.leads.0) h.sound;
+          sound = subst (IsBetweenCommands A.mixed) (sym k.leads.0) h.sound;
           taken = h.taken ++ n.q;
           told = h.told ++ line_told cut t.cutter ∷ [];
           trace = h.trace;
@@ -296,7 +296,7 @@ module _ (A : Around) (from held : store.State) (before now : Traffic) (s : Stat
         }
 
     -- that ends a command
-    module _ (next : Position) (after : store.State) (e : EndsCommand A h.position (line_told cut t.cutter) h.last next after) where
+    module _ (next : Position) (after : store.StoreState) (e : EndsCommand A h.position (line_told cut t.cutter) h.last next after) where
       abbrev event : StoreEvent
       event = record { command = e.command; answer = e.answer; failed = e.failed; store = after }
 
@@ -372,7 +372,7 @@ module _ (A : Around) (from held : store.State) (before now : Traffic) (s : Stat
     run_cut_off k shown = run_cut k.next k.after k.leads.0 shown k.leads.2 k.leads.1
 
   -- the script ends, wherever it stands
-  pub run_finishes : (o2 : Traffic) (t : State) (status : Status) → NextLine now.left o2.left s t (Ok None) → Finishes spot refused now.written o2.written status
+  pub run_finishes : (o2 : Traffic) (t : ScriptState) (status : Status) → NextLine now.left o2.left s t (Ok None) → Finishes spot refused now.written o2.written status
       → IsShownLast spot now.shown o2.shown (dump_lines (graph h.last)) → o2.faults ≡ now.faults → Ends status A from h.last before o2
   run_finishes o2 t status n f shown faults = by spot refl status f shown where
     outside_ends : spot ≡ place.Outside → (b : Bool) → refused ≡ b → o2.written ≡ now.written → o2.shown ≡ now.shown → Ends (cond b SomeRefused Done) A from h.last before o2
@@ -388,13 +388,13 @@ module _ (A : Around) (from held : store.State) (before now : Traffic) (s : Stat
     inside_ends left Memory f sh = absurd f
     inside_ends left TooLong f sh = absurd f
 
-    one_left : (p : Position) (q : Place) → IsAt p h.last held q → (q ≡ place.Outside → ⊥) → commands_from p [] ≡ Unended ∷ []
+    one_left : (p : Position) (q : Progress) → IsAt p h.last held q → (q ≡ place.Outside → ⊥) → commands_from p [] ≡ Unended ∷ []
     one_left Outside place.Outside a other = absurd (other refl)
     one_left Outside (place.Inside block) a other = absurd a
     one_left Outside (place.Asks question) a other = absurd a
     one_left (Inside kind body) q a other = refl
 
-    by : (q : Place) → spot ≡ q → (status : Status) → Finishes q refused now.written o2.written status → IsShownLast q now.shown o2.shown (dump_lines (graph h.last)) → Ends status A from h.last before o2
+    by : (q : Progress) → spot ≡ q → (status : Status) → Finishes q refused now.written o2.written status → IsShownLast q now.shown o2.shown (dump_lines (graph h.last)) → Ends status A from h.last before o2
     by place.Outside e status f sh = subst (λ z. Ends z A from h.last before o2) (sym f.0) (outside_ends e refused refl f.1 sh)
     by (place.Inside block) e status f sh = inside_ends (one_left h.position (place.Inside block) (subst (λ z. IsAt h.position h.last held z) e h.is_at) (λ o. let f : ⊥ = cc in f)) status f sh
     by (place.Asks question) e status f sh = inside_ends (one_left h.position (place.Asks question) (subst (λ z. IsAt h.position h.last held z) e h.is_at) (λ o. let f : ⊥ = cc in f)) status f sh
@@ -403,23 +403,23 @@ module _ (A : Around) (from held : store.State) (before now : Traffic) (s : Stat
   run_been = record { position = h.position; last = h.last; sound = h.sound; is_at = h.is_at }
 
 -- a call of the next line, by what it answered
-pub next_at : {a b : Option (List ℕ)} {s t : State} (r q : Result (Option Cut) ScriptFault) → r ≡ q → NextLine a b s t r → NextLine a b s t q
+pub next_at : {a b : Option (List ℕ)} {s t : ScriptState} (r q : Result (Option Cut) ScriptFault) → r ≡ q → NextLine a b s t r → NextLine a b s t q
 next_at {a} {b} {s} {t} r q e n = subst (λ z. NextLine a b s t z) e n
 
 -- a line that was taken, by which line it was and what it led to
-pub takes_at : {A : Around} {p : Position} {s held : store.State} {q : Place} {before now : Effects} (l m : Line) (o r : Outcome) → l ≡ m → o ≡ r → TakesLine A p l s held q before now o → TakesLine A p m s held q before now r
+pub takes_at : {A : Around} {p : Position} {s held : store.StoreState} {q : Progress} {before now : Effects} (l m : Line) (o r : Outcome) → l ≡ m → o ≡ r → TakesLine A p l s held q before now o → TakesLine A p m s held q before now r
 takes_at {A} {p} {s} {held} {q} {before} {now} l m o r e f k = subst (λ z. TakesLine A p m s held q before now z) f (subst (λ z. TakesLine A p z s held q before now o) e k)
 
 -- where a command ended, the store is the one that it left
-pub left_outside : (p : Position) (s held : store.State) (q : Place) → p ≡ Outside → IsAt p s held q → held ≡ s
+pub left_outside : (p : Position) (s held : store.StoreState) (q : Progress) → p ≡ Outside → IsAt p s held q → held ≡ s
 left_outside p s held q out at = by q (subst (λ z. IsAt z s held q) out at) where
-  by : (q : Place) → IsAt Outside s held q → held ≡ s
+  by : (q : Progress) → IsAt Outside s held q → held ≡ s
   by place.Outside at = at
   by (place.Inside block) at = absurd at
   by (place.Asks question) at = absurd at
 
 -- the same for the store that is left
-pub ends_in : (status : Status) (A : Around) (from t u : store.State) (a b : Traffic) → u ≡ t → Ends status A from t a b → Ends status A from u a b
+pub ends_in : (status : Status) (A : Around) (from t u : store.StoreState) (a b : Traffic) → u ≡ t → Ends status A from t a b → Ends status A from u a b
 ends_in status A from t u a b e = subst (λ z. Ends status A from z a b) (sym e)
 
 -- what stands around stays, as its parts do
@@ -427,35 +427,35 @@ pub around_same : {mixed : ℕ → ℕ → ℕ → ℕ → ℕ} {s t : Bool} {m 
 around_same {mixed} a b c i = around mixed (sym a i) (sym b i) (sym c i)
 
 -- what a watch is shown at last, by the store that is left
-pub shown_last : (q : Place) (before now : Option (List (List Text))) (s t : store.State) → t ≡ s → IsShownLast q before now (dump_lines (graph t)) → IsShownLast q before now (dump_lines (graph s))
+pub shown_last : (q : Progress) (before now : Option (List (List Text))) (s t : store.StoreState) → t ≡ s → IsShownLast q before now (dump_lines (graph t)) → IsShownLast q before now (dump_lines (graph s))
 shown_last q before now s t e h = subst (λ z. IsShownLast q before now (dump_lines (graph z))) e h
 
 -- the store where a command ended
-pub ended_at : {A : Around} {p : Position} {l : Line} {s : store.State} {next : Position} {after : store.State} (held : store.State) (q : Place) → EndsCommand A p l s next after → IsAt next after held q → held ≡ after
+pub ended_at : {A : Around} {p : Position} {l : Line} {s : store.StoreState} {next : Position} {after : store.StoreState} (held : store.StoreState) (q : Progress) → EndsCommand A p l s next after → IsAt next after held q → held ≡ after
 ended_at {A} {p} {l} {s} {next} {after} held q e at = left_outside next after held q e.out at
 
 -- the store that a watch was shown, where a command ended
-pub seen_at : {A : Around} {p : Position} {l : Line} {s : store.State} {next : Position} {after : store.State} (held : store.State) (q : Place) (before now : Option (List (List Text))) → EndsCommand A p l s next after → IsAt next after held q
+pub seen_at : {A : Around} {p : Position} {l : Line} {s : store.StoreState} {next : Position} {after : store.StoreState} (held : store.StoreState) (q : Progress) (before now : Option (List (List Text))) → EndsCommand A p l s next after → IsAt next after held q
     → IsShown before now (dump_lines (graph held)) → WasShown before now (dump_lines (graph after) ∷ [])
 seen_at {A} {p} {l} {s} {next} {after} held q before now e at h =
     subst (λ z. WasShown before now (dump_lines (graph z) ∷ [])) (ended_at held q e at) (was_shown before now (dump_lines (graph held)) h)
 
 -- it was settled
-pub settled_at : {A : Around} {p : Position} {l : Line} {s : store.State} {next : Position} {after : store.State} (held : store.State) (q : Place) → EndsCommand A p l s next after → IsAt next after held q → IsSettled held
+pub settled_at : {A : Around} {p : Position} {l : Line} {s : store.StoreState} {next : Position} {after : store.StoreState} (held : store.StoreState) (q : Progress) → EndsCommand A p l s next after → IsAt next after held q → IsSettled held
 settled_at {A} {p} {l} {s} {next} {after} held q e at = subst IsSettled (sym (ended_at held q e at)) e.carries.sound.settled
 
 -- the watch was shown the store that a script left
-pub shown_unended : (q : Place) (before now : Option (List (List Text))) (s : store.State) → (q ≡ place.Outside → ⊥) → IsShown before now (dump_lines (graph s)) → IsShownLast q before now (dump_lines (graph s))
+pub shown_unended : (q : Progress) (before now : Option (List (List Text))) (s : store.StoreState) → (q ≡ place.Outside → ⊥) → IsShown before now (dump_lines (graph s)) → IsShownLast q before now (dump_lines (graph s))
 shown_unended place.Outside before now s other h = absurd (other refl)
 shown_unended (place.Inside block) before now s other h = was_shown before now (dump_lines (graph s)) h
 shown_unended (place.Asks question) before now s other h = was_shown before now (dump_lines (graph s)) h
 
 -- a run by how it ended, for the store that is left
-pub taken_in : {A : Around} {from t u : store.State} {a b : Traffic} → u ≡ t → RunsTaken A from t a b → RunsTaken A from u a b
+pub taken_in : {A : Around} {from t u : store.StoreState} {a b : Traffic} → u ≡ t → RunsTaken A from t a b → RunsTaken A from u a b
 taken_in {A} {from} {t} {u} {a} {b} e = subst (λ z. RunsTaken A from z a b) (sym e)
 
-pub front_in : {A : Around} {from t u : store.State} {a b : Traffic} → u ≡ t → RunsFront A from t a b → RunsFront A from u a b
+pub front_in : {A : Around} {from t u : store.StoreState} {a b : Traffic} → u ≡ t → RunsFront A from t a b → RunsFront A from u a b
 front_in {A} {from} {t} {u} {a} {b} e = subst (λ z. RunsFront A from z a b) (sym e)
 
-pub cut_in : {A : Around} {from t u : store.State} {a b : Traffic} → u ≡ t → RunsCut A from t a b → RunsCut A from u a b
+pub cut_in : {A : Around} {from t u : store.StoreState} {a b : Traffic} → u ≡ t → RunsCut A from t a b → RunsCut A from u a b
 cut_in {A} {from} {t} {u} {a} {b} e = subst (λ z. RunsCut A from z a b) (sym e)

@@ -10,7 +10,7 @@ use Rattle.rdf_model.specs.Graph.{Graph}
 use Rattle.run_model.specs.Worlds.{Config, FailedRead}
 use Rattle.run_model.specs.Steps.{Event, Run, commands_in, text_of, or_none, failed_reads}
 use Rattle.tn_io.specs.FileFaults.{FaultCounts}
-use Rattle.graph_store.specs.State.{State, graph}
+use Rattle.graph_store.specs.StoreState.{StoreState, graph}
 use Rattle.line_batch.specs.Carrying.{Around, config_in, world_in}
 use Rattle.tentris_core.specs.Carrying.{StoreEvent, events_in, RunsOver}
 use Rattle.tentris_core.specs.Traffic.{Traffic, AreCounted}
@@ -42,7 +42,7 @@ all_taken script taken (Some rest) h end =
     let is : script ≡ taken ++ rest = cc in
     is ∙ ap (λ r. taken ++ r) end ∙ append-nil taken
 
-are_of : (A : Around) (s t : State) (before now : Traffic) (trace : List StoreEvent) (script : List ℕ) → CarriesOut A s t before now trace → before.left ≡ Some script
+are_of : (A : Around) (s t : StoreState) (before now : Traffic) (trace : List StoreEvent) (script : List ℕ) → CarriesOut A s t before now trace → before.left ≡ Some script
     → AreOf A.most_bytes script (commands_in (events_in A trace))
 are_of A s t before now _ script (whole refused runs) told =
     let is : script ≡ runs.taken = all_taken script runs.taken now.left (sym told ∙ runs.read) runs.at_end in
@@ -56,16 +56,16 @@ are_of A s t before now _ script (front runs) told =
       of n m sum e h = omega (arith, e, h)
 
 -- what both ways say
-over_of : (A : Around) (s t : State) (before now : Traffic) (trace : List StoreEvent) → CarriesOut A s t before now trace → RunsOver A s trace t
+over_of : (A : Around) (s t : StoreState) (before now : Traffic) (trace : List StoreEvent) → CarriesOut A s t before now trace → RunsOver A s trace t
 over_of A s t before now _ (whole refused runs) = runs.runs
 over_of A s t before now _ (front runs) = runs.runs
 
-wrote_of : (A : Around) (s t : State) (before now : Traffic) (trace : List StoreEvent) → CarriesOut A s t before now trace
+wrote_of : (A : Around) (s t : StoreState) (before now : Traffic) (trace : List StoreEvent) → CarriesOut A s t before now trace
     → now.written ≡ append_known before.written (text_of (events_in A trace))
 wrote_of A s t before now _ (whole refused runs) = runs.wrote
 wrote_of A s t before now _ (front runs) = runs.wrote
 
-watched_of : (A : Around) (s t : State) (before now : Traffic) (trace : List StoreEvent) → CarriesOut A s t before now trace → IsWatched A trace before now
+watched_of : (A : Around) (s t : StoreState) (before now : Traffic) (trace : List StoreEvent) → CarriesOut A s t before now trace → IsWatched A trace before now
 watched_of A s t before now _ (whole refused runs) = runs.watched
 watched_of A s t before now _ (front runs) = runs.watched
 
@@ -103,7 +103,7 @@ as_run cfg files script G H out h =
       unhindered = unhindered h.around h.trace h.before.faults h.now.faults (watched_of h.around h.s h.t h.before h.now h.trace h.runs).counted h.unrisen h.memory;
       text = append_cancel_left h.had out (text_of (events_in h.around h.trace)) text;
     } where
-      world : (s : State) (K : Graph) → graph s ≡ K → world_in h.around s ≡ record { graph = K; files = Some files }
+      world : (s : StoreState) (K : Graph) → graph s ≡ K → world_in h.around s ≡ record { graph = K; files = Some files }
       world s K is = ap (λ g. record { graph = g; files = h.around.files }) is ∙ ap (λ f. record { graph = K; files = f }) h.told
 
       run : Run (config_in h.around h.s) (record { graph = G; files = Some files }) (events_in h.around h.trace) (record { graph = H; files = Some files })

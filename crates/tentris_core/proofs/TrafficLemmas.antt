@@ -6,7 +6,7 @@ use Rattle.rdf_model.specs.Terms.{Text}
 use Rattle.rdf_model.specs.Dumps.{dump_lines}
 use Rattle.run_model.specs.Worlds.{FailedRead}
 use Rattle.run_model.specs.Steps.{or_none, failed_reads}
-use Rattle.graph_store.specs.State.{graph}
+use Rattle.graph_store.specs.StoreState.{graph}
 use Rattle.graph_store.specs.Watching.{IsShown}
 use Rattle.tn_io.specs.FileFaults.{FaultCounts}
 use Rattle.line_batch.specs.Carrying.{Around}

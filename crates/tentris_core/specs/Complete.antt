@@ -8,7 +8,7 @@ use Rattle.run_model.specs.Worlds.{Config, World}
 use Rattle.run_model.specs.Steps.{refusal_of, failed_reads}
 use Rattle.tn_io.specs.Causes.{Rose}
 use Rattle.tn_io.specs.FileFaults.{FaultCounts}
-use Rattle.graph_store.specs.State.{State}
+use Rattle.graph_store.specs.StoreState.{StoreState}
 use Rattle.line_batch.specs.Carrying.{Around, config_in, world_in}
 use Rattle.tentris_core.specs.Carrying.{StoreEvent, events_in, RunsOver}
 use Rattle.tentris_core.specs.Traffic.{AreCounted}
@@ -19,7 +19,7 @@ pub record IsFree (cfg : Config) (W : World) (c : Command) : Type 0 where
   pub file : (change : Change) (scope name : Text) (r : Refusal) → c ≡ Single (File change scope name) → RefusesFile cfg W change scope name r → ⊥
 
 -- each command is free over what those before it left
-abbrev pub AreFree : Around → State → List StoreEvent → Type 0
+abbrev pub AreFree : Around → StoreState → List StoreEvent → Type 0
 AreFree A s [] = ⊤
 AreFree A s (e ∷ es) = IsFree (config_in A s) (world_in A s) e.command × AreFree A e.store es
 
@@ -38,6 +38,6 @@ AreDone (e ∷ es) = ((is_refused e.answer ≡ false) ⊎ (e.answer ≡ Refused 
 -- A run whose commands are free, and in which no count of a name rose that they give, carries out every command, but for want of memory.
 abbrev pub RunsAreComplete : Type 0
 RunsAreComplete =
-    (A : Around) (s t : State) (trace : List StoreEvent) (before now : FaultCounts)
+    (A : Around) (s t : StoreState) (trace : List StoreEvent) (before now : FaultCounts)
     → RunsOver A s trace t → AreFree A s trace → AreCounted before now (failed_reads (events_in A trace)) → AreUnraised before now trace
     → AreDone trace

@@ -11,7 +11,7 @@ use Rattle.solution_model.specs.Rows.{Row}
 use Rattle.run_model.specs.Answers as model
 use Rattle.run_model.specs.Answers.{answer_text, Listed}
 use Rattle.run_model.specs.Questions.{fault_refusal}
-use Rattle.graph_store.specs.State.{State}
+use Rattle.graph_store.specs.StoreState.{StoreState}
 use Rattle.answer_text.specs.declared.Refusal.{Refusal}
 use Rattle.answer_text.specs.declared.Refusal.TheVariants as cause
 use Rattle.answer_text.specs.Seen.{refusal_of}
@@ -22,7 +22,7 @@ use Rattle.tentris_core.specs.declared.question.Question.TheVariants.{Text, Refu
 use Rattle.tentris_core.specs.declared.outcome.Outcome.{Outcome}
 use Rattle.tentris_core.specs.Puts.{PassesOn, WritesAnswer}
 use Rattle.line_batch.specs.Carrying.{Around, Carries}
-use Rattle.line_batch.specs.Sound.{IsSound}
+use Rattle.line_batch.specs.Sound.{IsBetweenCommands}
 
 -- what the lines of the block say so far: their text, or that it is too long
 abbrev pub IsGathered : List Line → Question → Type 0
@@ -37,7 +37,7 @@ IsFault answer cause.Memory = Unit {0}
 IsFault answer other = fault_refusal answer ≡ Some (refusal_of other)
 
 -- A query of these lines was answered over the store s, which it leaves as it was.
-pub record AnswersQuestion (A : Around) (body : List Line) (s : State) (before now : Option (List ℕ)) (outcome : Outcome) : Type 0 where
+pub record AnswersQuestion (A : Around) (body : List Line) (s : StoreState) (before now : Option (List ℕ)) (outcome : Outcome) : Type 0 where
   pub answer : model.Answer
   pub carries : Carries A s (script.Block script.Question body) s answer None
   pub writes : WritesAnswer before now outcome answer
@@ -53,23 +53,23 @@ abbrev pub GathersBehind : List ℕ → Line → Question → Type 0
 GathersBehind text line question = (body : List Line) → question_of body ≡ Some text → IsGathered (body ++ line ∷ []) question
 
 -- the query of a block whose lines were gathered so was answered, where rows are sorted or not
-abbrev pub AnswersGathered : {K : Type 0} → Bool → Question → State → (K → Option (List ℕ)) → Out K → Out K → Outcome → Type 0
+abbrev pub AnswersGathered : {K : Type 0} → Bool → Question → StoreState → (K → Option (List ℕ)) → Out K → Out K → Outcome → Type 0
 AnswersGathered sorted question s written old new outcome =
-    (A : Around) (body : List Line) → A.sorted ≡ sorted → IsSound A.mixed s → IsGathered body question → AnswersQuestion A body s (written old.sink.now) (written new.sink.now) outcome
+    (A : Around) (body : List Line) → A.sorted ≡ sorted → IsBetweenCommands A.mixed s → IsGathered body question → AnswersQuestion A body s (written old.sink.now) (written new.sink.now) outcome
 
 -- the query of this text was
-abbrev pub AnswersText : {K : Type 0} → Bool → List ℕ → State → (K → Option (List ℕ)) → Out K → Out K → Outcome → Type 0
+abbrev pub AnswersText : {K : Type 0} → Bool → List ℕ → StoreState → (K → Option (List ℕ)) → Out K → Out K → Outcome → Type 0
 AnswersText sorted text s written old new outcome =
-    (A : Around) (body : List Line) → A.sorted ≡ sorted → IsSound A.mixed s → question_of body ≡ Some text → AnswersQuestion A body s (written old.sink.now) (written new.sink.now) outcome
+    (A : Around) (body : List Line) → A.sorted ≡ sorted → IsBetweenCommands A.mixed s → question_of body ≡ Some text → AnswersQuestion A body s (written old.sink.now) (written new.sink.now) outcome
 
 -- the query was, its rows in any order
-abbrev pub Lists : {K : Type 0} → meaning.Query → State → (K → Option (List ℕ)) → Out K → Out K → Outcome → Type 0
+abbrev pub Lists : {K : Type 0} → meaning.Query → StoreState → (K → Option (List ℕ)) → Out K → Out K → Outcome → Type 0
 Lists query s written old new outcome =
-    (A : Around) (body : List Line) (text : List ℕ) → A.sorted ≡ false → IsSound A.mixed s → question_of body ≡ Some text → meaning.query_of text ≡ meaning.IsQuery query
+    (A : Around) (body : List Line) (text : List ℕ) → A.sorted ≡ false → IsBetweenCommands A.mixed s → question_of body ≡ Some text → meaning.query_of text ≡ meaning.IsQuery query
     → AnswersQuestion A body s (written old.sink.now) (written new.sink.now) outcome
 
 -- the query was, its rows sorted, which is right wherever any order is
-abbrev pub Sorts : {K : Type 0} → meaning.Query → State → (K → Option (List ℕ)) → Out K → Out K → Outcome → Type 0
+abbrev pub Sorts : {K : Type 0} → meaning.Query → StoreState → (K → Option (List ℕ)) → Out K → Out K → Outcome → Type 0
 Sorts query s written old new outcome =
-    (A : Around) (body : List Line) (text : List ℕ) → IsSound A.mixed s → question_of body ≡ Some text → meaning.query_of text ≡ meaning.IsQuery query
+    (A : Around) (body : List Line) (text : List ℕ) → IsBetweenCommands A.mixed s → question_of body ≡ Some text → meaning.query_of text ≡ meaning.IsQuery query
     → AnswersQuestion A body s (written old.sink.now) (written new.sink.now) outcome

@@ -6,7 +6,7 @@ use Rattle.text_lines.specs.Lines.{lines_of, whole_lines_of}
 use Rattle.script_model.specs.Commands.{Command, commands_of, closed_commands_of}
 use Rattle.run_model.specs.Answers.{answer_text}
 use Rattle.run_model.specs.Steps.{commands_in, text_of, some_refused, failed_reads}
-use Rattle.graph_store.specs.State.{State}
+use Rattle.graph_store.specs.StoreState.{StoreState}
 use Rattle.line_batch.specs.Carrying.{Around}
 use Rattle.tentris_core.specs.Carrying.{StoreEvent, events_in, RunsOver}
 use Rattle.tentris_core.specs.Puts.{IsPart}
@@ -20,7 +20,7 @@ pub record IsWatched (A : Around) (trace : List StoreEvent) (before now : Traffi
   pub counted : AreCounted before.faults now.faults (failed_reads (events_in A trace))
 
 -- The source was read to its end: all commands were carried out and answered. `refused` says whether one was refused.
-pub record RunsAll (A : Around) (refused : Bool) (s t : State) (before now : Traffic) : Type 0 where
+pub record RunsAll (A : Around) (refused : Bool) (s t : StoreState) (before now : Traffic) : Type 0 where
   pub taken : List ℕ
   pub trace : List StoreEvent
   pub read : before.left ≡ prepend_known taken now.left
@@ -33,7 +33,7 @@ pub record RunsAll (A : Around) (refused : Bool) (s t : State) (before now : Tra
   pub watched : IsWatched A trace before now
 
 -- A read failed: the commands that the bytes taken close were carried out and answered.
-pub record RunsTaken (A : Around) (s t : State) (before now : Traffic) : Type 0 where
+pub record RunsTaken (A : Around) (s t : StoreState) (before now : Traffic) : Type 0 where
   pub taken : List ℕ
   pub trace : List StoreEvent
   pub read : before.left ≡ prepend_known taken now.left
@@ -44,7 +44,7 @@ pub record RunsTaken (A : Around) (s t : State) (before now : Traffic) : Type 0 
   pub watched : IsWatched A trace before now
 
 -- The source has more bytes than the script may have: the commands that its first bytes close were carried out and answered.
-pub record RunsFront (A : Around) (s t : State) (before now : Traffic) : Type 0 where
+pub record RunsFront (A : Around) (s t : StoreState) (before now : Traffic) : Type 0 where
   pub taken : List ℕ
   pub trace : List StoreEvent
   pub read : before.left ≡ prepend_known taken now.left
@@ -62,7 +62,7 @@ AreAllowed max taken left commands =
     ⊎ (IsAtEnd left × (length taken ≤ max) × (more : List Command) × (commands_of (lines_of taken) ≡ commands ++ more))
 
 -- A write failed: each command but the last was answered whole, and of the last one's answer a front was written.
-pub record RunsCut (A : Around) (s t : State) (before now : Traffic) : Type 0 where
+pub record RunsCut (A : Around) (s t : StoreState) (before now : Traffic) : Type 0 where
   pub taken : List ℕ
   pub front : List StoreEvent
   pub last : StoreEvent
@@ -73,12 +73,12 @@ pub record RunsCut (A : Around) (s t : State) (before now : Traffic) : Type 0 wh
   pub watched : IsWatched A (front ++ last ∷ []) before now
 
 -- nothing was read, written, shown or changed
-pub record IsUntouched (s t : State) (before now : Traffic) : Type 0 where
+pub record IsUntouched (s t : StoreState) (before now : Traffic) : Type 0 where
   pub same : t ≡ s
   pub still : now ≡ before
 
 -- what each status says of a run
-abbrev pub Ends : Status → Around → State → State → Traffic → Traffic → Type 0
+abbrev pub Ends : Status → Around → StoreState → StoreState → Traffic → Traffic → Type 0
 Ends Done A = RunsAll A false
 Ends SomeRefused A = RunsAll A true
 Ends BadWords A = IsUntouched

@@ -10,7 +10,7 @@ use Rattle.run_model.specs.Worlds.{Config, World}
 use Rattle.run_model.specs.Steps.{Event, Run, commands_in, text_of}
 use Rattle.tn_io.specs.Causes.{Rose}
 use Rattle.tn_io.specs.FileFaults.{FaultCounts}
-use Rattle.graph_store.specs.State.{State, graph}
+use Rattle.graph_store.specs.StoreState.{StoreState, graph}
 use Rattle.line_batch.specs.Carrying.{Around, config_in}
 use Rattle.tentris_core.specs.Carrying.{StoreEvent}
 use Rattle.tentris_core.specs.Traffic.{Traffic}
@@ -49,15 +49,15 @@ abbrev pub AreUnrisen : FaultCounts → FaultCounts → Type 0
 AreUnrisen before now = (name : Text) (place : ℕ) → Rose (before name place) (now name place) → ⊥
 
 -- The script was carried out: to its end, or as far as it may go where it has too many bytes.
-pub data CarriesOut (A : Around) (s t : State) (before now : Traffic) : List StoreEvent → Type 0 where
+pub data CarriesOut (A : Around) (s t : StoreState) (before now : Traffic) : List StoreEvent → Type 0 where
   whole : (refused : Bool) (runs : RunsAll A refused s t before now) → CarriesOut A s t before now runs.trace
   front : (runs : RunsFront A s t before now) → CarriesOut A s t before now runs.trace
 
 -- A call carried out this script over the graph G and these files, wrote `out` and left the graph H; nothing hindered it.
 pub record SortedCall (cfg : Config) (files : FileMap) (script : List ℕ) (G H : Graph) (out : List ℕ) : Type 0 where
   pub around : Around
-  pub s : State
-  pub t : State
+  pub s : StoreState
+  pub t : StoreState
   pub before : Traffic
   pub now : Traffic
   pub trace : List StoreEvent
@@ -83,6 +83,6 @@ SortedCallsAgree =
 -- A call that memory sufficed for, and whose script and answers met no fault, carries the script out.
 abbrev pub CallsCarryOut : Type 0
 CallsCarryOut =
-    (settings : Settings) (status : Status) (mixed : ℕ → ℕ → ℕ → ℕ → ℕ) (files : Option FileMap) (s t : State) (before now : Traffic)
+    (settings : Settings) (status : Status) (mixed : ℕ → ℕ → ℕ → ℕ → ℕ) (files : Option FileMap) (s t : StoreState) (before now : Traffic)
     → EndsScript settings status mixed files s t before now → status ≢ Memory → status ≢ ReadFault → status ≢ WriteFault
     → (trace : List StoreEvent) × CarriesOut (around_by settings mixed files) (bounded_by settings s) t before now trace

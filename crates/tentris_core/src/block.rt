@@ -3,9 +3,9 @@
 //! A block's lines are judged as they come; the graph is changed once, where the block ends.
 ghost use Rattle.std.specs.Prelude.{◌≡◌, ◌≤◌, ◌+◌, ◌<◌, ◌-◌, ◌^◌, [], length, IfSome};
 ghost use Rattle.script_model.specs.Commands as script;
-ghost use Rattle.graph_store.specs.State.{State, IsSettled};
+ghost use Rattle.graph_store.specs.StoreState.{StoreState, IsSettled};
 ghost use Rattle.line_batch.specs.Seen.{answer_of};
-ghost use Rattle.line_batch.specs.Sound.{IsSound};
+ghost use Rattle.line_batch.specs.Sound.{IsBetweenCommands};
 ghost use Rattle.line_batch.specs.Batches.{lent_line, IsNone, IsReady, MayBeScope};
 ghost use Rattle.line_batch.specs.Carrying.{Around};
 ghost use Rattle.tentris_core.specs.Carrying.{around};
@@ -37,7 +37,7 @@ pub struct Block {
 }
 
 /// Where a script stands between two lines. It must be spent.
-pub enum Place {
+pub enum Progress {
     Outside,
     Inside(Block),
     Asks(Question),
@@ -65,19 +65,19 @@ impl Block {
     }
 }
 
-impl Place {
+impl Progress {
     /// Leaves the store as it was after the last command.
     pub fn abandon<M: Mix>(self, store: &mut Store<M>)
         requires ready { IsReadyAt M.mixed store.old self }
-        ensures { (p : Position) (s : State) → IsAt p s store.old self → store.new ≡ s }
+        ensures { (p : Position) (s : StoreState) → IsAt p s store.old self → store.new ≡ s }
     {
         match self {
-            Place::Outside => {}
-            Place::Inside(block) => {
+            Progress::Outside => {}
+            Progress::Inside(block) => {
                 let Block { lines: _, batch } = block;
                 batch.abandon(store);
             }
-            Place::Asks(question) => drop(question),
+            Progress::Asks(question) => drop(question),
         }
     }
 }
@@ -120,7 +120,7 @@ fn carry_out_file<M: Mix, F: Files, W: Ledger, V: Ledger, U: Ledger>(
     scope: &str,
     name: &str,
 ) -> Answer
-    requires sound { IsSound M.mixed store.old }
+    requires sound { IsBetweenCommands M.mixed store.old }
     requires ready { IsReady store.old batch }
     requires few { tools.old.reader.max ≤ 1099511627776 }
     requires scope { MayBeScope scope.now }
@@ -151,8 +151,8 @@ fn outside<M: Mix, F: Files, W: Ledger, V: Ledger, U: Ledger>(
     files: &mut F,
     tools: &mut Tools<W, V, U>,
     line: Option<&[u8]>,
-) -> (Place, Option<Answer>)
-    requires sound { IsSound M.mixed store.old }
+) -> (Progress, Option<Answer>)
+    requires sound { IsBetweenCommands M.mixed store.old }
     requires few { tools.old.reader.max ≤ 1099511627776 }
     ensures meets { (A : Around) → A ≡ around M.mixed tools.old.sorted tools.old.reader.max (F.files files.old)
         → MeetsLine A Outside (lent_line line.entry) store.old store.new result.0 (F.faults files.old) (F.faults files.new) result.1 }
@@ -161,24 +161,24 @@ fn outside<M: Mix, F: Files, W: Ledger, V: Ledger, U: Ledger>(
     ensures files { F.files files.new ≡ F.files files.old }
 {
     let Some(bytes) = line else {
-        return (Place::Outside, Some(Answer::Refused(Refusal::Command)));
+        return (Progress::Outside, Some(Answer::Refused(Refusal::Command)));
     };
     if skipped(bytes) {
-        return (Place::Outside, None);
+        return (Progress::Outside, None);
     }
     match command(bytes) {
         Some(Command::Insert) => (begin(Batch::inserts(alloc, store)), None),
         Some(Command::Delete) => (begin(Batch::deletes(alloc, store)), None),
-        Some(Command::Query) => (Place::Asks(Question::new(alloc)), None),
+        Some(Command::Query) => (Progress::Asks(Question::new(alloc)), None),
         Some(Command::Load(scope, name)) => {
             let inserts = Batch::inserts(alloc, store);
             let loaded = carry_out_file(alloc, inserts, store, files, tools, scope, name);
-            (Place::Outside, Some(loaded))
+            (Progress::Outside, Some(loaded))
         }
         Some(Command::Unload(scope, name)) => {
             let deletes = Batch::deletes(alloc, store);
             let unloaded = carry_out_file(alloc, deletes, store, files, tools, scope, name);
-            (Place::Outside, Some(unloaded))
+            (Progress::Outside, Some(unloaded))
         }
         Some(Command::Generate(count, salt)) => {
             let answer = generate(
@@ -189,20 +189,20 @@ fn outside<M: Mix, F: Files, W: Ledger, V: Ledger, U: Ledger>(
                 &mut tools.scratch,
                 &mut tools.counts,
             );
-            (Place::Outside, Some(answer))
+            (Progress::Outside, Some(answer))
         }
-        Some(Command::Dump) => (Place::Outside, Some(dump(alloc, store))),
-        Some(Command::Stats) => (Place::Outside, Some(stats(store))),
-        Some(Command::Shape) => (Place::Outside, Some(shape(alloc, store))),
-        None => (Place::Outside, Some(Answer::Refused(Refusal::Command))),
+        Some(Command::Dump) => (Progress::Outside, Some(dump(alloc, store))),
+        Some(Command::Stats) => (Progress::Outside, Some(stats(store))),
+        Some(Command::Shape) => (Progress::Outside, Some(shape(alloc, store))),
+        None => (Progress::Outside, Some(Answer::Refused(Refusal::Command))),
     }
 }
 
 // A block without a line yet, whose triples go as the empty batch says.
-fn begin(batch: Batch) -> Place
+fn begin(batch: Batch) -> Progress
     ensures { BeginsBlock batch result }
 {
-    Place::Inside(Block { lines: 0, batch })
+    Progress::Inside(Block { lines: 0, batch })
 }
 
 // Whether a line ends its block.
@@ -223,7 +223,7 @@ fn inside<M: Mix, W: Ledger, V: Ledger, U: Ledger>(
     line: Option<&[u8]>,
     scratch: &mut Scratch,
     counts: &mut Counts<W, V, U>,
-) -> (Place, Option<Answer>)
+) -> (Progress, Option<Answer>)
     requires short { IfSome line (λ l. length l.now ≤ 1048576) }
     requires room { block.lines < 2 ^ 64 - 1 }
     requires ready { IsReady store.old block.batch }
@@ -232,9 +232,9 @@ fn inside<M: Mix, W: Ledger, V: Ledger, U: Ledger>(
     if ends(line) {
         let Block { lines: _, batch } = block;
         let answer = batch.carry_out(alloc, store, counts);
-        return (Place::Outside, Some(answer));
+        return (Progress::Outside, Some(answer));
     }
-    (Place::Inside(block.with_line(store, line, scratch)), None)
+    (Progress::Inside(block.with_line(store, line, scratch)), None)
 }
 
 // Takes a line of a query.
@@ -246,7 +246,7 @@ fn asks<M: Mix, K: Sink, W: Ledger, V: Ledger, U: Ledger>(
     sorted: bool,
     counts: &mut Counts<W, V, U>,
     out: &mut Out<'_, K>,
-) -> (Place, Outcome)
+) -> (Progress, Outcome)
     requires short { IfSome line (λ l. length l.now ≤ 1048576) }
     requires empty { out.old.buffer ≡ [] }
     ensures same_sink { out.new.sink.ghost_name ≡ out.old.sink.ghost_name }
@@ -256,9 +256,9 @@ fn asks<M: Mix, K: Sink, W: Ledger, V: Ledger, U: Ledger>(
 {
     if ends(line) {
         let outcome = question.answer(alloc, store, sorted, &mut counts.reads, out);
-        return (Place::Outside, outcome);
+        return (Progress::Outside, outcome);
     }
-    (Place::Asks(question.with_line(line)), Outcome::GoesOn)
+    (Progress::Asks(question.with_line(line)), Outcome::GoesOn)
 }
 
 // Passes an answer on, if there is one.
@@ -281,18 +281,18 @@ pub fn take_line<M: Mix, F: Files, K: Sink, W: Ledger, V: Ledger, U: Ledger>(
     store: &mut Store<M>,
     files: &mut F,
     tools: &mut Tools<W, V, U>,
-    place: Place,
+    place: Progress,
     line: Option<&[u8]>,
     out: &mut Out<'_, K>,
-) -> (Place, Outcome)
+) -> (Progress, Outcome)
     requires short { IfSome line (λ l. length l.now ≤ 1048576) }
     requires room { lines_in place < 2 ^ 64 - 1 }
     requires ready { IsReadyAt M.mixed store.old place }
     requires few { tools.old.reader.max ≤ 1099511627776 }
     requires empty { out.old.buffer ≡ [] }
     ensures same_sink { out.new.sink.ghost_name ≡ out.old.sink.ghost_name }
-    ensures takes { (A : Around) (p : Position) (s : State) → A ≡ around M.mixed tools.old.sorted tools.old.reader.max (F.files files.old)
-        → IsSound A.mixed s → IsAt p s store.old place
+    ensures takes { (A : Around) (p : Position) (s : StoreState) → A ≡ around M.mixed tools.old.sorted tools.old.reader.max (F.files files.old)
+        → IsBetweenCommands A.mixed s → IsAt p s store.old place
         → TakesLine A p (lent_line line.entry) s store.new result.0
         (effects (K.written out.old.sink.now) (F.faults files.old)) (effects (K.written out.new.sink.now) (F.faults files.new)) result.1 }
     ensures sorted { tools.new.sorted ≡ tools.old.sorted }
@@ -302,15 +302,15 @@ pub fn take_line<M: Mix, F: Files, K: Sink, W: Ledger, V: Ledger, U: Ledger>(
     ensures cause { HasOutcome (K.faults out.old.sink.now) (K.faults out.new.sink.now) result.1 }
 {
     match place {
-        Place::Outside => {
+        Progress::Outside => {
             let (next, answer) = outside(alloc, store, files, tools, line);
             (next, tell(out, answer))
         }
-        Place::Asks(question) => {
+        Progress::Asks(question) => {
             let sorted = tools.sorted;
             asks(alloc, store, question, line, sorted, &mut tools.counts, out)
         }
-        Place::Inside(block) => {
+        Progress::Inside(block) => {
             let (next, answer) = inside(
                 alloc,
                 store,

@@ -1,7 +1,7 @@
 //! A dry run: a script in memory, whose answers nobody reads.
 ghost use Rattle.std.specs.Prelude.{◌≡◌, ◌≢◌, map};
 ghost use Rattle.command_words.specs.Answers.{answer_to};
-ghost use Rattle.graph_store.specs.State.{IsSettled};
+ghost use Rattle.graph_store.specs.StoreState.{IsSettled};
 ghost use Rattle.graph_store.specs.Stands.{Stands};
 ghost use Rattle.tn_io.specs.Memory.{pure_left};
 ghost use Rattle.tn_io.specs.MemoryFiles.{pure_files};

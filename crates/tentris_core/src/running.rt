@@ -8,11 +8,11 @@ ghost use Rattle.tn_io.specs.CutterState.{line_told};
 ghost use Rattle.tn_io.specs.FileFaults.{FaultCounts};
 ghost use Rattle.rdf_model.specs.Dumps.{dump_lines};
 ghost use Rattle.line_batch.specs.Batches.{lent_line};
-ghost use Rattle.line_batch.specs.Sound.{IsSound};
+ghost use Rattle.line_batch.specs.Sound.{IsBetweenCommands};
 ghost use Rattle.command_words.specs.Answers.{answer_to, IsWithinLimits};
 ghost use Rattle.tentris_core.specs.Places.{IsAt, IsReadyAt, HasBeen};
 ghost use Rattle.tentris_core.specs.Carrying.{around};
-ghost use Rattle.graph_store.specs.State.{State, IsSettled, graph};
+ghost use Rattle.graph_store.specs.StoreState.{StoreState, IsSettled, graph};
 ghost use Rattle.graph_store.specs.Stands.{Stands};
 ghost use Rattle.tentris_core.specs.Traffic.{traffic};
 ghost use Rattle.tentris_core.specs.Runs.{Ends};
@@ -20,7 +20,7 @@ ghost use Rattle.tentris_core.specs.Called.{EndsScript, EndsCall, IsByWords, Wri
 ghost use Rattle.tentris_core.specs.Endings.{Finishes, EndsInBlock, IsShownLast};
 ghost use Rattle.script_read.specs.ScriptState.{at_start};
 
-use crate::block::{Place, take_line};
+use crate::block::{Progress, take_line};
 use crate::outcome::{Outcome, pass_on};
 use crate::tools::Tools;
 use answer_text::Refusal;
@@ -102,7 +102,7 @@ fn refuse_unended<K: Sink>(out: &mut Out<'_, K>) -> Status
 
 // The script has ended: a block without its end is refused, and shown as a command.
 fn finish<M: Mix, K: Sink, Z: Watch>(
-    place: Place,
+    place: Progress,
     refused: bool,
     store: &mut Store<M>,
     out: &mut Out<'_, K>,
@@ -117,7 +117,7 @@ fn finish<M: Mix, K: Sink, Z: Watch>(
     ensures later { K.faults out.old.sink.now ≤ K.faults out.new.sink.now }
     ensures fault { result ≡ Status.WriteFault → Rose (K.faults out.old.sink.now) (K.faults out.new.sink.now) }
 {
-    let ended = matches!(&place, Place::Outside);
+    let ended = matches!(&place, Progress::Outside);
     place.abandon(store);
     if ended {
         return if refused {
@@ -144,13 +144,13 @@ fn carry_out<M: Mix, F: Files, S: Source, K: Sink, Z: Watch, W: Ledger, V: Ledge
 ) -> Status
     requires start { script.old ≡ at_start tools.old.reader.max }
     requires few { tools.old.reader.max ≤ 1099511627776 }
-    requires sound { IsSound M.mixed store.old }
+    requires sound { IsBetweenCommands M.mixed store.old }
     requires empty { out.old.buffer ≡ [] }
     ensures same_sink { out.new.sink.ghost_name ≡ out.old.sink.ghost_name }
     ensures ends { Ends result (around M.mixed tools.old.sorted tools.old.reader.max (F.files files.old)) store.old store.new
         (traffic (S.left source.old) (K.written out.old.sink.now) (Z.shown watch.old) (F.faults files.old))
         (traffic (S.left source.new) (K.written out.new.sink.now) (Z.shown watch.new) (F.faults files.new)) }
-    ensures sound { IsSound M.mixed store.new }
+    ensures sound { IsBetweenCommands M.mixed store.new }
     ensures accepted { result ≢ Status.BadWords }
     ensures sufficed { result ≢ Status.Memory }
     ensures files { F.files files.new ≡ F.files files.old }
@@ -159,7 +159,7 @@ fn carry_out<M: Mix, F: Files, S: Source, K: Sink, Z: Watch, W: Ledger, V: Ledge
     ensures read_fault { result ≡ Status.ReadFault → Rose (S.faults source.old) (S.faults source.new) }
     ensures write_fault { result ≡ Status.WriteFault → Rose (K.faults out.old.sink.now) (K.faults out.new.sink.now) }
 {
-    let mut place = Place::Outside;
+    let mut place = Progress::Outside;
     let mut refused = false;
     'lines: loop {
         let cut = match script.next_line(source) {
@@ -217,13 +217,13 @@ fn carry_out_within<
     requires limits { IsWithinLimits settings }
     requires sorted { tools.old.sorted ≡ settings.sort }
     requires most { tools.old.reader.max ≡ settings.max_bytes }
-    requires sound { IsSound M.mixed store.old }
+    requires sound { IsBetweenCommands M.mixed store.old }
     requires empty { out.old.buffer ≡ [] }
     ensures same_sink { out.new.sink.ghost_name ≡ out.old.sink.ghost_name }
     ensures ends { EndsScript settings result M.mixed (F.files files.old) store.old store.new
         (traffic (S.left source.old) (K.written out.old.sink.now) (Z.shown watch.old) (F.faults files.old))
         (traffic (S.left source.new) (K.written out.new.sink.now) (Z.shown watch.new) (F.faults files.new)) }
-    ensures sound { IsSound M.mixed store.new }
+    ensures sound { IsBetweenCommands M.mixed store.new }
     ensures files { F.files files.new ≡ F.files files.old }
     ensures later_read { S.faults source.old ≤ S.faults source.new }
     ensures later_write { K.faults out.old.sink.now ≤ K.faults out.new.sink.now }
@@ -280,7 +280,7 @@ fn run_script<M: Mix, F: Files, S: Source, K: Sink, Z: Watch, W: Ledger, V: Ledg
     retains: Blank,
     reads: Blank,
 ) -> Status
-    requires sound { IsSound M.mixed store.old }
+    requires sound { IsBetweenCommands M.mixed store.old }
     requires limits { IsWithinLimits settings }
     requires name { interns.name ≡ W.name }
     requires parts { interns.parts ≡ W.parts }
@@ -294,7 +294,7 @@ fn run_script<M: Mix, F: Files, S: Source, K: Sink, Z: Watch, W: Ledger, V: Ledg
     ensures ends { EndsScript settings result M.mixed (F.files files.old) store.old store.new
         (traffic (S.left source.old) (K.written sink.old) (Z.shown watch.old) (F.faults files.old))
         (traffic (S.left source.new) (K.written sink.new) (Z.shown watch.new) (F.faults files.new)) }
-    ensures sound { IsSound M.mixed store.new }
+    ensures sound { IsBetweenCommands M.mixed store.new }
     ensures files { F.files files.new ≡ F.files files.old }
     ensures later_read { S.faults source.old ≤ S.faults source.new }
     ensures later_write { K.faults sink.old ≤ K.faults sink.new }
@@ -362,8 +362,7 @@ pub fn run<M: Mix, F: Files, S: Source, K: Sink, Z: Watch>(
     ensures read_fault { result ≡ Status.ReadFault → Rose (S.faults source.old) (S.faults source.new) }
     ensures write_fault { result ≡ Status.WriteFault → Rose (K.faults sink.old) (K.faults sink.new) }
 {
-    // This call tells the proof that the tables are the shape of the graph.
-    store.triples();
+    store.stands();
     let settings = match read_words(alloc, words) {
         Ok(settings) => settings,
         Err(Refused::Help(help)) => return show_help(&help, sink),

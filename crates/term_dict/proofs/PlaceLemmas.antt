@@ -6,12 +6,12 @@ use Rattle.std.proofs.lemmas.List.Sums.{sum_by-set, sum_by_push}
 use Rattle.std.proofs.lemmas.Option.{slice_get_within, slice_get-get_or, slice_get_read, get_or_from_slice_get}
 use Rattle.rdf_model.specs.Terms.{Term}
 use Rattle.hash_index.specs.Slots.{slot_at, Writes}
-use Rattle.term_dict.specs.declared.place.Place.{Place}
-use Rattle.term_dict.specs.declared.place.Place.TheVariants.{Vacant}
+use Rattle.term_dict.specs.declared.term_slot.TermSlot.{TermSlot}
+use Rattle.term_dict.specs.declared.term_slot.TermSlot.TheVariants.{Vacant}
 use Rattle.term_dict.specs.Places.{term_in, IsParted, IsVacantList, IsLinked}
 
 -- a place starts one list at most
-count_unique : (ps : List Place) (m n number : ℕ) → IsVacantList ps m number → IsVacantList ps n number → m ≡ n
+count_unique : (ps : List TermSlot) (m n number : ℕ) → IsVacantList ps m number → IsVacantList ps n number → m ≡ n
 count_unique ps zero zero number p q = refl
 count_unique ps zero (suc n) number p q = absurd (omega (arith, slice_get_within ps number _ q.1))
 count_unique ps (suc m) zero number p q = absurd (omega (arith, slice_get_within ps number _ p.1))
@@ -22,7 +22,7 @@ count_unique ps (suc m) (suc n) number p q =
     ap suc (count_unique ps m n p.0 p.2 (subst (IsVacantList ps n) same q.2))
 
 -- a write of a place that is not on the list keeps the list
-IsVacantList-set : (ps : List Place) (number : ℕ) (e : Place) (n from : ℕ) → ((m : ℕ) → m < n → IsVacantList ps (suc m) number → ⊥) → IsVacantList ps n from → IsVacantList (set ps number e) n from
+IsVacantList-set : (ps : List TermSlot) (number : ℕ) (e : TermSlot) (n from : ℕ) → ((m : ℕ) → m < n → IsVacantList ps (suc m) number → ⊥) → IsVacantList ps n from → IsVacantList (set ps number e) n from
 IsVacantList-set ps number e zero from off p = p ∙ sym (length-set ps number e)
 IsVacantList-set ps number e (suc n) from off p =
     let other : from ≢ number = λ same. off n (omega arith) (subst (IsVacantList ps (suc n)) same p) in
@@ -32,18 +32,18 @@ IsVacantList-set ps number e (suc n) from off p =
     ∙ ap Some (get_or-set_other ps number from e e other ∙ get_or_from_slice_get ps from _ e p.1) in
     (p.0, kept, IsVacantList-set ps number e n p.0 (λ m below. off m (omega arith)) p.2)
 
-vacant_has_no_term : (next : ℕ) (e : Place) → e ≡ Vacant next → IsSome (term_in e) → ⊥
+vacant_has_no_term : (next : ℕ) (e : TermSlot) → e ≡ Vacant next → IsSome (term_in e) → ⊥
 vacant_has_no_term next e is there = let t : term_in e ≡ None = ap term_in is in cc
 
 -- a place with a term is on no list
-term_is_off_list : (ps : List Place) (number : ℕ) (e : Place) → slice_get ps number ≡ Some e → IsSome (term_in e) → (m : ℕ) → IsVacantList ps (suc m) number → ⊥
+term_is_off_list : (ps : List TermSlot) (number : ℕ) (e : TermSlot) → slice_get ps number ≡ Some e → IsSome (term_in e) → (m : ℕ) → IsVacantList ps (suc m) number → ⊥
 term_is_off_list ps number e found there m p =
     let listed = p.1 in
     let is : e ≡ Vacant p.0 = cc in
     vacant_has_no_term p.0 e is there
 
 -- the count of terms after a write
-count-set : (ps : List Place) (number : ℕ) (old new : Place) → slice_get ps number ≡ Some old → count_by is_some (map term_in (set ps number new)) + cond (is_some (term_in old)) 1 0 ≡ count_by is_some (map term_in ps) + cond (is_some (term_in new)) 1 0
+count-set : (ps : List TermSlot) (number : ℕ) (old new : TermSlot) → slice_get ps number ≡ Some old → count_by is_some (map term_in (set ps number new)) + cond (is_some (term_in old)) 1 0 ≡ count_by is_some (map term_in ps) + cond (is_some (term_in new)) 1 0
 count-set ps number old new found =
     let within = slice_get_within ps number old found in
     let read : get_or (map term_in ps) number None ≡ term_in old =
@@ -52,54 +52,54 @@ count-set ps number old new found =
     rw (map-set term_in ps number new, ← read) counted
 
 -- a slot with a term is a place with it
-pub place_at : (ps : List Place) (number : ℕ) → IsSome (slot_at (map term_in ps) number) → (e : Place) × (slice_get ps number ≡ Some e) × IsSome (term_in e)
+pub place_at : (ps : List TermSlot) (number : ℕ) → IsSome (slot_at (map term_in ps) number) → (e : TermSlot) × (slice_get ps number ≡ Some e) × IsSome (term_in e)
 place_at ps number present =
     let inside : number < length (map term_in ps) = grind (arith, get_or_past) in
     let within : number < length ps = omega (arith, length-map ps term_in) in
     (get_or ps number (Vacant 0), slice_get-get_or ps number (Vacant 0) within, subst IsSome (get_or-map term_in ps number (Vacant 0) None within) present)
 
 -- the next place is a new one where each place has a term, or it has none
-next_cases : (ps : List Place) (held next : ℕ) → IsLinked ps held next → ((next ≡ length ps) × (held ≡ length ps)) ⊎ ((after : ℕ) × (slice_get ps next ≡ Some (Vacant after)))
+next_cases : (ps : List TermSlot) (held next : ℕ) → IsLinked ps held next → ((next ≡ length ps) × (held ≡ length ps)) ⊎ ((after : ℕ) × (slice_get ps next ≡ Some (Vacant after)))
 next_cases ps held next sound = by_count sound.vacant sound.total sound.linked
   where
     by_count : (n : ℕ) → held + n ≡ length ps → IsVacantList ps n next → ((next ≡ length ps) × (held ≡ length ps)) ⊎ ((after : ℕ) × (slice_get ps next ≡ Some (Vacant after)))
     by_count zero total linked = inl (linked, omega arith)
     by_count (suc n) total linked = inr (linked.0, linked.1)
 
-pub next_is_vacant : (ps : List Place) (held next : ℕ) → IsLinked ps held next → slot_at (map term_in ps) next ≡ None
+pub next_is_vacant : (ps : List TermSlot) (held next : ℕ) → IsLinked ps held next → slot_at (map term_in ps) next ≡ None
 next_is_vacant ps held next sound =
     elim (next_cases ps held next sound) [
       | inl full ↦ get_or_past (map term_in ps) next None (omega (arith, length-map ps term_in))
       | inr found ↦ get_or-map term_in ps next (Vacant 0) None (slice_get_within ps next _ found.1) ∙ ap term_in (get_or_from_slice_get ps next _ (Vacant 0) found.1)
     ]
 
-pub next_is_least : (ps : List Place) (held next : ℕ) → IsLinked ps held next → (next < length (map term_in ps)) ⊎ ((next ≡ length (map term_in ps)) × (count_by is_some (map term_in ps) ≡ length (map term_in ps)))
+pub next_is_least : (ps : List TermSlot) (held next : ℕ) → IsLinked ps held next → (next < length (map term_in ps)) ⊎ ((next ≡ length (map term_in ps)) × (count_by is_some (map term_in ps) ≡ length (map term_in ps)))
 next_is_least ps held next sound =
     elim (next_cases ps held next sound) [
       | inl full ↦ inr (full.0 ∙ sym (length-map ps term_in), sym sound.counted ∙ full.1 ∙ sym (length-map ps term_in))
       | inr found ↦ inl (let within = slice_get_within ps next _ found.1 in omega (arith, length-map ps term_in))
     ]
 
-pub full_at_end : (ps : List Place) (held next : ℕ) → IsLinked ps held next → next ≡ length ps → held ≡ length ps
+pub full_at_end : (ps : List TermSlot) (held next : ℕ) → IsLinked ps held next → next ≡ length ps → held ≡ length ps
 full_at_end ps held next sound at_end =
     elim (next_cases ps held next sound) [
       | inl full ↦ full.1
       | inr found ↦ omega (arith, slice_get_within ps next _ found.1)
     ]
 
-vacant_before_end : (ps : List Place) (held next : ℕ) → IsLinked ps held next → next ≢ length ps → (after : ℕ) × (slice_get ps next ≡ Some (Vacant after))
+vacant_before_end : (ps : List TermSlot) (held next : ℕ) → IsLinked ps held next → next ≢ length ps → (after : ℕ) × (slice_get ps next ≡ Some (Vacant after))
 vacant_before_end ps held next sound before =
     elim (next_cases ps held next sound) [ inl full ↦ absurd (before full.0) | inr found ↦ found ]
 
-pub next_within : (ps : List Place) (held next : ℕ) → IsLinked ps held next → next ≢ length ps → next < length ps
+pub next_within : (ps : List TermSlot) (held next : ℕ) → IsLinked ps held next → next ≢ length ps → next < length ps
 next_within ps held next sound before = slice_get_within ps next _ (vacant_before_end ps held next sound before).1
 
 -- what a read of the next place gives stands there
-pub read_at_next : (ps : List Place) (held next : ℕ) (e : Place) → IsLinked ps held next → next ≢ length ps → e ≡ get_or ps next e → slice_get ps next ≡ Some e
+pub read_at_next : (ps : List TermSlot) (held next : ℕ) (e : TermSlot) → IsLinked ps held next → next ≢ length ps → e ≡ get_or ps next e → slice_get ps next ≡ Some e
 read_at_next ps held next e sound before read = slice_get_read ps (length ps) next e refl (next_within ps held next sound before) read
 
 -- and it is a place without a term
-pub next_reads_vacant : (ps : List Place) (held next : ℕ) (e : Place) → IsLinked ps held next → slice_get ps next ≡ Some e → (after : ℕ) × (e ≡ Vacant after)
+pub next_reads_vacant : (ps : List TermSlot) (held next : ℕ) (e : TermSlot) → IsLinked ps held next → slice_get ps next ≡ Some e → (after : ℕ) × (e ≡ Vacant after)
 next_reads_vacant ps held next e sound found =
     let vacant = vacant_before_end ps held next sound (λ is. omega (arith, slice_get_within ps next _ found)) in
     let there = vacant.1 in
@@ -109,7 +109,7 @@ one-some : (o : Option Term) → IsSome o → ◌≡◌ {A = ℕ} (cond (is_some
 one-some None there = cc
 one-some (Some t) there = refl
 
-pub IsLinked-push : (ps : List Place) (held next : ℕ) (e : Place) → IsLinked ps held next → next ≡ length ps → IsSome (term_in e) → IsParted e → IsLinked (ps ++ e ∷ []) (held + 1) (next + 1)
+pub IsLinked-push : (ps : List TermSlot) (held next : ℕ) (e : TermSlot) → IsLinked ps held next → next ≡ length ps → IsSome (term_in e) → IsParted e → IsLinked (ps ++ e ∷ []) (held + 1) (next + 1)
 IsLinked-push ps held next e sound at_end there cut =
     let full = full_at_end ps held next sound at_end in
     let longer = length_push ps e in
@@ -123,7 +123,7 @@ IsLinked-push ps held next e sound at_end there cut =
     }
 
 -- the first place without a term leaves the list: the rest of the list is shorter, so it does not come back to that place
-pub IsLinked-fill : (ps : List Place) (held next after : ℕ) (e : Place) → IsLinked ps held next → slice_get ps next ≡ Some (Vacant after) → IsSome (term_in e) → IsParted e → IsLinked (set ps next e) (held + 1) after
+pub IsLinked-fill : (ps : List TermSlot) (held next after : ℕ) (e : TermSlot) → IsLinked ps held next → slice_get ps next ≡ Some (Vacant after) → IsSome (term_in e) → IsParted e → IsLinked (set ps next e) (held + 1) after
 IsLinked-fill ps held next after e sound found there cut = by_count sound.vacant sound.total sound.linked
   where
     by_count : (n : ℕ) → held + n ≡ length ps → IsVacantList ps n next → IsLinked (set ps next e) (held + 1) after
@@ -141,7 +141,7 @@ IsLinked-fill ps held next after e sound found there cut = by_count sound.vacant
           parted = All-set IsParted ps next e cut sound.parted;
         }
 
-pub IsLinked-vacate : (ps : List Place) (held next number : ℕ) (e : Place) → IsLinked ps held next → slice_get ps number ≡ Some e → IsSome (term_in e) → IsLinked (set ps number (Vacant next)) (held - 1) number
+pub IsLinked-vacate : (ps : List TermSlot) (held next number : ℕ) (e : TermSlot) → IsLinked ps held next → slice_get ps number ≡ Some e → IsSome (term_in e) → IsLinked (set ps number (Vacant next)) (held - 1) number
 IsLinked-vacate ps held next number e sound found there =
     let within = slice_get_within ps number _ found in
     let count = count-set ps number e (Vacant next) found in
@@ -159,14 +159,14 @@ IsLinked-vacate ps held next number e sound found there =
     }
 
 -- at least one place has a term
-pub some_held : (ps : List Place) (held next number : ℕ) (e : Place) → IsLinked ps held next → slice_get ps number ≡ Some e → IsSome (term_in e) → 1 ≤ held
+pub some_held : (ps : List TermSlot) (held next number : ℕ) (e : TermSlot) → IsLinked ps held next → slice_get ps number ≡ Some e → IsSome (term_in e) → 1 ≤ held
 some_held ps held next number e sound found there =
     let count = count-set ps number e (Vacant next) found in
     let one = one-some (term_in e) there in
     let before = sound.counted in
     omega arith
 
-pub Writes-set : (ps : List Place) (number : ℕ) (e : Place) → number < length ps → Writes (map term_in ps) (map term_in (set ps number e)) number (term_in e)
+pub Writes-set : (ps : List TermSlot) (number : ℕ) (e : TermSlot) → number < length ps → Writes (map term_in ps) (map term_in (set ps number e)) number (term_in e)
 Writes-set ps number e within =
     record {
       changed = ap (λ os. slot_at os number) (map-set term_in ps number e) ∙ get_or-set_same (map term_in ps) number (term_in e) None (omega (arith, length-map ps term_in));

@@ -8,11 +8,11 @@ use Rattle.rdf_model.specs.Graph.{coded_term}
 use Rattle.hash_index.specs.Slots.{slot_at}
 use Rattle.rdf_term.specs.Seen.{lent_term}
 use Rattle.rdf_term.specs.declared.term.TermRef.{TermRef}
-use Rattle.term_dict.specs.declared.place.Place.{Place}
-use Rattle.term_dict.specs.declared.place.Place.TheVariants as place
+use Rattle.term_dict.specs.declared.term_slot.TermSlot.{TermSlot}
+use Rattle.term_dict.specs.declared.term_slot.TermSlot.TheVariants as place
 
 -- the term in a place, if there is one
-abbrev pub term_in : Place → Option Term
+abbrev pub term_in : TermSlot → Option Term
 term_in (place.Vacant next) = None
 term_in (place.Iri text) = Some (Iri text)
 term_in (place.Blank label) = Some (Blank label)
@@ -21,7 +21,7 @@ term_in (place.Typed parting text) = Some (Literal (take parting (string_bytes t
 term_in (place.Tagged parting text) = Some (Literal (take parting (string_bytes text)) (Tagged (drop parting (string_bytes text))))
 
 -- a place that holds two texts in one parts them between characters
-abbrev pub IsParted : Place → Type 0
+abbrev pub IsParted : TermSlot → Type 0
 IsParted (place.Typed parting text) = IsCharBoundary (string_bytes text) parting
 IsParted (place.Tagged parting text) = IsCharBoundary (string_bytes text) parting
 IsParted (place.Vacant next) = ⊤
@@ -60,12 +60,12 @@ abbrev pub IsOneMoreAtMost : List (Option Term) → List (Option Term) → ℕ �
 IsOneMoreAtMost old new number = (length new ≡ length old) ⊎ ((length new ≡ length old + 1) × (number ≡ length old))
 
 -- from this number on so many places without a term each name the next, and the last names the number of places
-abbrev pub IsVacantList : List Place → ℕ → ℕ → Type 0
+abbrev pub IsVacantList : List TermSlot → ℕ → ℕ → Type 0
 IsVacantList places zero number = number ≡ length places
 IsVacantList places (suc count) number = (next : ℕ) × (slice_get places number ≡ Some (place.Vacant next)) × IsVacantList places count next
 
 -- `held` counts the terms, the list from `next` has every place without one, and two texts in one part between characters
-pub record IsLinked (places : List Place) (held next : ℕ) : Type 0 where
+pub record IsLinked (places : List TermSlot) (held next : ℕ) : Type 0 where
   pub counted : held ≡ count_by is_some (map term_in places)
   pub vacant : ℕ
   pub total : held + vacant ≡ length places

@@ -5,8 +5,8 @@ ghost use Rattle.rdf_term.specs.Seen.{lent_term};
 ghost use Rattle.hash_index.specs.Slots.{slot_at};
 ghost use Rattle.term_dict.specs.Dict.{IsNew, IsOneToOne, HasSmallIds, Interns, ListsHeld, IsNotUnder, Puts, texts_of, hash_of as hash_of_term};
 
-use crate::place::Place;
 use crate::places::Places;
+use crate::term_slot::TermSlot;
 use crate::text_hash::TextHash;
 use hash_index::{HashIndex, short_hash};
 use rdf_term::{KindRef, TermRef, is_same_ref};
@@ -161,7 +161,7 @@ fn add(
     ensures places_kept { OnErr result (places.new.slots ≡ places.old.slots) }
     ensures index_kept { OnErr result (index.new ≡ index.old) }
 {
-    let place = Place::of(alloc, term)?;
+    let place = TermSlot::of(alloc, term)?;
     places.reserve()?;
     let number = places.next();
     index.add(hash, number)?;

@@ -3,8 +3,8 @@
 
 mod dict;
 mod joined;
-mod place;
 mod places;
+mod term_slot;
 #[cfg(test)]
 mod tests;
 mod text_hash;

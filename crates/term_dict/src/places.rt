@@ -3,7 +3,7 @@ ghost use Rattle.std.specs.Prelude.{◌≡◌, ◌<◌, [], None, IsSome, OnOk, 
 ghost use Rattle.hash_index.specs.Slots.{slot_at, Writes};
 ghost use Rattle.term_dict.specs.Places.{term_in, IsParted, IsLentFrom, IsUsedAgainFirst, IsOneMoreAtMost};
 
-use crate::place::Place;
+use crate::term_slot::TermSlot;
 use rdf_term::TermRef;
 use std::alloc::Global;
 use std::marker::Model;
@@ -12,7 +12,7 @@ use trie_depth::Memory;
 
 #[derive(Drop)]
 pub struct Places {
-    places: Vec<Place>,
+    places: Vec<TermSlot>,
     held: usize,
     // The first of the places without a term, each of which names the next, or the number of places.
     next: usize,
@@ -78,7 +78,7 @@ impl Places {
     }
 
     /// Puts a term into the next place.
-    pub(crate) fn put(&mut self, place: Place)
+    pub(crate) fn put(&mut self, place: TermSlot)
         requires room { self.old.next < self.old.capacity }
         requires term { IsSome (term_in place) }
         requires parted { IsParted place }
@@ -93,7 +93,7 @@ impl Places {
             return;
         }
         match mem::replace(&mut self.places[number], place) {
-            Place::Vacant(next) => self.next = next,
+            TermSlot::Vacant(next) => self.next = next,
             _ => unreachable!(),
         }
     }
@@ -104,7 +104,7 @@ impl Places {
         ensures written { Writes self.old.slots self.new.slots number None }
         ensures len { length self.new.slots ≡ length self.old.slots }
     {
-        self.places[number] = Place::Vacant(self.next);
+        self.places[number] = TermSlot::Vacant(self.next);
         self.held -= 1;
         self.next = number;
     }

@@ -8,32 +8,20 @@ use Rattle.trie_context.specs.declared.tables.Tables.{Tables}
 use Rattle.trie_context.specs.RootShape.{OnlyRootHeld}
 use Rattle.trie_context.specs.Roots.{root_set}
 use Rattle.trie_change.specs.declared.change.Change.{Change}
-use Rattle.trie_change.specs.After.{graph_after, with_batch, without_batch}
+use Rattle.trie_change.specs.After.{graph_after}
 use Rattle.trie_change.specs.Extra.{extra}
 
 -- the most edges that a batch of b triples retains where it makes H of G
 abbrev pub most_retained : IdSet → IdSet → ℕ → ℕ
 most_retained G H b = 32 * (b + 1) + extra G H
 
--- that of a batch that changes the graph, that is put in, and that is taken out
+-- that of a batch that changes a graph
 abbrev pub change_retains : Change → Tables → Root → List Trip → ℕ
 change_retains change t root batch = most_retained (root_set t root) (graph_after change t root batch) (length batch)
-
-abbrev pub grow_retains : Tables → Root → List Trip → ℕ
-grow_retains t root batch = most_retained (root_set t root) (with_batch t root batch) (length batch)
-
-abbrev pub shrink_retains : Tables → Root → List Trip → ℕ
-shrink_retains t root batch = most_retained (root_set t root) (without_batch t root batch) (length batch)
 
 -- where only the root is held, such a batch retains no more from one count to another
 abbrev pub ChangeRetains : Change → Tables → Root → List Trip → ℕ → ℕ → Type 0
 ChangeRetains change t root batch before now = OnlyRootHeld t root → now ≤ before + change_retains change t root batch
-
-abbrev pub GrowRetains : Tables → Root → List Trip → ℕ → ℕ → Type 0
-GrowRetains t root batch before now = OnlyRootHeld t root → now ≤ before + grow_retains t root batch
-
-abbrev pub ShrinkRetains : Tables → Root → List Trip → ℕ → ℕ → Type 0
-ShrinkRetains t root batch before now = OnlyRootHeld t root → now ≤ before + shrink_retains t root batch
 
 -- where only the root is held, it has no more triples than twice the batch and one
 abbrev pub IsSmall : Tables → Root → ℕ → Type 0

@@ -5,7 +5,7 @@ ghost use Rattle.trie_context.specs.Holds.{holds_of, nothing, CountsRiseBy, Rows
 ghost use Rattle.trie_context.specs.Opened.{HoldsAreMoved};
 ghost use Rattle.change_log.specs.Log.{Leads, keeps, reserved_in, HasPlaces, frees};
 
-use crate::record::Undo;
+use crate::kept::Undo;
 use std::mem;
 use trie_context::{Context, Root};
 use trie_depth::Mix;

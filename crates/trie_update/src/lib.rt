@@ -4,13 +4,13 @@
 #![tactic(auto)]
 
 mod end;
+mod kept;
 mod open;
-mod record;
 mod replaced;
 mod update;
 
 pub use end::{settle, undo};
+pub use kept::Undo;
 pub use open::{grow_open, shrink_open};
-pub use record::Undo;
 pub use trie_context::Root;
 pub use update::{grow, shrink};

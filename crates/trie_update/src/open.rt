@@ -1,19 +1,12 @@
 //! A graph changed, with what was replaced kept.
-ghost use Rattle.std.specs.Prelude.{◌≡◌, ◌+◌, ◌*◌, ◌<◌, ◌≤◌, ◌^◌, true, false, IfOk, OnOk, OnErr, length};
-ghost use Rattle.std.specs.FinSet as set;
-ghost use Rattle.hypertrie_model.specs.Changes.{IsChange};
-ghost use Rattle.trie_depth.specs.Tuples.{trip_tuple};
-ghost use Rattle.trie_context.specs.Roots.{root_set, IsHeld};
-ghost use Rattle.change_log.specs.Log.{reserved_in};
-ghost use Rattle.change_log.specs.Places.{ArePlacesBeside};
-ghost use Rattle.trie_change.specs.After.{triples_of, graph_after, with_batch, without_batch};
-ghost use Rattle.trie_change.specs.Batches.{IsOnce};
+ghost use Rattle.std.specs.Prelude.{◌+◌, ◌*◌, ◌≤◌, true, false, IfOk, OnErr, length};
+ghost use Rattle.trie_change.specs.declared.change.Change.{Change};
+ghost use Rattle.trie_change.specs.After.{graph_after, with_batch, without_batch};
 ghost use Rattle.trie_change.specs.Changes.{grows};
-ghost use Rattle.trie_change.specs.Rooms.{CountsUpTo};
-ghost use Rattle.trie_update.specs.Opened.{LogsChange};
-ghost use Rattle.trie_update.specs.Retained.{ChangeRetains, GrowRetains, ShrinkRetains};
+ghost use Rattle.trie_update.specs.Changed.{MayChangeGraph, IsOpen, IsAsBefore};
+ghost use Rattle.trie_update.specs.Retained.{ChangeRetains};
 
-use crate::record::Undo;
+use crate::kept::Undo;
 use crate::replaced::replace_root;
 use change_log::Log;
 use std::alloc::Global;
@@ -33,18 +26,9 @@ pub fn change_open<M: Mix, W: Ledger, V: Ledger>(
     interns: &mut Steps<W>,
     retains: &mut Steps<V>,
 ) -> Result<Undo, Memory>
-    requires held { IsHeld context.old root.old }
-    requires once { IsOnce trip_tuple batch.now }
-    requires change { IsChange (grows change) (root_set context.old root.old) (triples_of batch.now) }
-    requires counts { CountsUpTo context.old (2 ^ 96) }
-    requires size { set.len (root_set context.old root.old) ≤ 536870912 }
-    requires batch { length batch.now ≤ 536870912 }
-    ensures set { OnOk result (root_set context.new root.new ≡ graph_after change context.old root.old batch.now) }
-    ensures logged { IfOk result (λ u. LogsChange M.mixed context.old context.new root.old root.new u.log.steps) }
-    ensures places { IfOk result (λ u. ArePlacesBeside u.log.steps (reserved_in context.old) (reserved_in context.new)) }
-    ensures was { IfOk result (λ u. u.was ≡ root.old) }
-    ensures tables { OnErr result (context.new ≡ context.old) }
-    ensures root { OnErr result (root.new ≡ root.old) }
+    requires { MayChangeGraph (grows change) context.old root.old batch.now }
+    ensures open { IfOk result (IsOpen M.mixed context.old context.new root.old root.new (graph_after change context.old root.old batch.now)) }
+    ensures kept { OnErr result (IsAsBefore context.old context.new root.old root.new) }
     ensures ticks { interns.new ≤ interns.old + (9 * length batch.now + 10) }
     ensures retained { ChangeRetains change context.old root.old batch.now retains.old retains.new }
 {
@@ -73,19 +57,11 @@ pub fn grow_open<M: Mix, W: Ledger, V: Ledger>(
     interns: &mut Steps<W>,
     retains: &mut Steps<V>,
 ) -> Result<Undo, Memory>
-    requires held { IsHeld context.old root.old }
-    requires once { IsOnce trip_tuple batch.now }
-    requires new { IsChange true (root_set context.old root.old) (triples_of batch.now) }
-    requires counts { CountsUpTo context.old (2 ^ 96) }
-    requires size { set.len (with_batch context.old root.old batch.now) ≤ 536870912 }
-    ensures set { OnOk result (root_set context.new root.new ≡ with_batch context.old root.old batch.now) }
-    ensures logged { IfOk result (λ u. LogsChange M.mixed context.old context.new root.old root.new u.log.steps) }
-    ensures places { IfOk result (λ u. ArePlacesBeside u.log.steps (reserved_in context.old) (reserved_in context.new)) }
-    ensures was { IfOk result (λ u. u.was ≡ root.old) }
-    ensures tables { OnErr result (context.new ≡ context.old) }
-    ensures root { OnErr result (root.new ≡ root.old) }
+    requires { MayChangeGraph true context.old root.old batch.now }
+    ensures open { IfOk result (IsOpen M.mixed context.old context.new root.old root.new (with_batch context.old root.old batch.now)) }
+    ensures kept { OnErr result (IsAsBefore context.old context.new root.old root.new) }
     ensures ticks { interns.new ≤ interns.old + (9 * length batch.now + 10) }
-    ensures retained { GrowRetains context.old root.old batch.now retains.old retains.new }
+    ensures retained { ChangeRetains Change.Grow context.old root.old batch.now retains.old retains.new }
 {
     change_open(alloc, context, Change::Grow, root, batch, interns, retains)
 }
@@ -99,19 +75,11 @@ pub fn shrink_open<M: Mix, W: Ledger, V: Ledger>(
     interns: &mut Steps<W>,
     retains: &mut Steps<V>,
 ) -> Result<Undo, Memory>
-    requires held { IsHeld context.old root.old }
-    requires once { IsOnce trip_tuple batch.now }
-    requires there { IsChange false (root_set context.old root.old) (triples_of batch.now) }
-    requires counts { CountsUpTo context.old (2 ^ 96) }
-    requires size { set.len (with_batch context.old root.old batch.now) ≤ 536870912 }
-    ensures set { OnOk result (root_set context.new root.new ≡ without_batch context.old root.old batch.now) }
-    ensures logged { IfOk result (λ u. LogsChange M.mixed context.old context.new root.old root.new u.log.steps) }
-    ensures places { IfOk result (λ u. ArePlacesBeside u.log.steps (reserved_in context.old) (reserved_in context.new)) }
-    ensures was { IfOk result (λ u. u.was ≡ root.old) }
-    ensures tables { OnErr result (context.new ≡ context.old) }
-    ensures root { OnErr result (root.new ≡ root.old) }
+    requires { MayChangeGraph false context.old root.old batch.now }
+    ensures open { IfOk result (IsOpen M.mixed context.old context.new root.old root.new (without_batch context.old root.old batch.now)) }
+    ensures kept { OnErr result (IsAsBefore context.old context.new root.old root.new) }
     ensures ticks { interns.new ≤ interns.old + (9 * length batch.now + 10) }
-    ensures retained { ShrinkRetains context.old root.old batch.now retains.old retains.new }
+    ensures retained { ChangeRetains Change.Shrink context.old root.old batch.now retains.old retains.new }
 {
     change_open(
         alloc,

@@ -1,17 +1,14 @@
 //! The root of a graph replaced by that of the changed graph.
 ghost use Rattle.std.specs.Prelude.{◌≡◌, ◌+◌, ◌*◌, ◌<◌, ◌≤◌, ◌^◌, ℕ, IsNone, IfSome, IfOk, OnErr, length};
 ghost use Rattle.std.specs.FinSet as set;
-ghost use Rattle.hypertrie_model.specs.Changes.{IsChange};
-ghost use Rattle.trie_depth.specs.Tuples.{trip_tuple};
 ghost use Rattle.trie_context.specs.declared.root.Root.{Root};
 ghost use Rattle.trie_context.specs.Holds.{count_of};
 ghost use Rattle.trie_context.specs.Roots.{root_set, root_hold, IsHeld};
 ghost use Rattle.trie_context.specs.Rows.{row_of, set_of};
 ghost use Rattle.change_log.specs.Log.{edge_hold, Grows};
-ghost use Rattle.trie_change.specs.After.{triples_of, graph_after};
-ghost use Rattle.trie_change.specs.Batches.{IsOnce};
+ghost use Rattle.trie_change.specs.After.{graph_after};
 ghost use Rattle.trie_change.specs.Changes.{grows};
-ghost use Rattle.trie_change.specs.Rooms.{CountsUpTo};
+ghost use Rattle.trie_update.specs.Changed.{MayChangeGraph};
 ghost use Rattle.trie_update.specs.Opened.{ReplacesRoot};
 ghost use Rattle.trie_update.specs.Retained.{ChangeRetains, IsSmall};
 
@@ -54,36 +51,6 @@ fn row_to_open<M: Mix>(context: &Context<M>, root: &Root, batch: usize) -> Optio
     }
 }
 
-/// The root of the graph changed by copying. The old root's hold is kept in the log.
-fn copy_root<M: Mix, W: Ledger, V: Ledger>(
-    alloc: Global,
-    context: &mut Context<M>,
-    change: Change,
-    root: &Root,
-    batch: &[Trip],
-    log: &mut Log,
-    interns: &mut Steps<W>,
-    retains: &mut Steps<V>,
-) -> Result<Root, Memory>
-    requires held { IsHeld context.old root.now }
-    requires once { IsOnce trip_tuple batch.now }
-    requires change { IsChange (grows change) (root_set context.old root.now) (triples_of batch.now) }
-    requires counts { CountsUpTo context.old (2 ^ 96) }
-    requires size { set.len (root_set context.old root.now) ≤ 536870912 }
-    requires batch { length batch.now ≤ 536870912 }
-    ensures set { IfOk result (λ new. root_set context.new new ≡ graph_after change context.old root.now batch.now) }
-    ensures logged { IfOk result (ReplacesRoot M.mixed context.old context.new log.old log.new root.now) }
-    ensures grew { OnErr result (Grows M.mixed context.old context.new log.old.steps log.new.steps) }
-    ensures ticks { interns.new ≤ interns.old + (9 * length batch.now + 10) }
-    ensures retained { retains.new ≤ retains.old + 9 * (set.len (root_set context.old root.now) + length batch.now) }
-{
-    context.is_kept();
-    log.reserve()?;
-    let new = change_graph(alloc, context, change, root, batch, interns, retains)?;
-    log.push(Step::Triples(RowStep::Replaced(root_edge(root), root_edge(&new))));
-    Ok(new)
-}
-
 /// The root of the graph changed by the batch. The old root's hold was in hand, and the new one's is.
 pub fn replace_root<M: Mix, W: Ledger, V: Ledger>(
     alloc: Global,
@@ -95,20 +62,21 @@ pub fn replace_root<M: Mix, W: Ledger, V: Ledger>(
     interns: &mut Steps<W>,
     retains: &mut Steps<V>,
 ) -> Result<Root, Memory>
-    requires held { IsHeld context.old root.now }
-    requires once { IsOnce trip_tuple batch.now }
-    requires change { IsChange (grows change) (root_set context.old root.now) (triples_of batch.now) }
-    requires counts { CountsUpTo context.old (2 ^ 96) }
-    requires size { set.len (root_set context.old root.now) ≤ 536870912 }
-    requires batch { length batch.now ≤ 536870912 }
+    requires { MayChangeGraph (grows change) context.old root.now batch.now }
     ensures set { IfOk result (λ new. root_set context.new new ≡ graph_after change context.old root.now batch.now) }
     ensures logged { IfOk result (ReplacesRoot M.mixed context.old context.new log.old log.new root.now) }
     ensures grew { OnErr result (Grows M.mixed context.old context.new log.old.steps log.new.steps) }
     ensures ticks { interns.new ≤ interns.old + (9 * length batch.now + 10) }
     ensures retained { ChangeRetains change context.old root.now batch.now retains.old retains.new }
 {
+    context.is_kept();
     match row_to_open(context, root, batch.len()) {
         Some(row) => reopen_triples(alloc, context, change, row, batch, log, interns, retains),
-        None => copy_root(alloc, context, change, root, batch, log, interns, retains),
+        None => {
+            log.reserve()?;
+            let new = change_graph(alloc, context, change, root, batch, interns, retains)?;
+            log.push(Step::Triples(RowStep::Replaced(root_edge(root), root_edge(&new))));
+            Ok(new)
+        }
     }
 }

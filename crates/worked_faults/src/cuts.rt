@@ -1,6 +1,6 @@
 //! A script that ends behind any of its bytes.
 ghost use Rattle.std.specs.Prelude.{◌<◌};
-ghost use Rattle.graph_store.specs.State.{IsSettled};
+ghost use Rattle.graph_store.specs.StoreState.{IsSettled};
 
 use crate::tables::{CUTS, STEPS, script_of_steps};
 use graph_store::Store;

@@ -1,6 +1,6 @@
 //! A read of the script fails: each of them in turn.
 ghost use Rattle.std.specs.Prelude.{◌<◌};
-ghost use Rattle.graph_store.specs.State.{IsSettled};
+ghost use Rattle.graph_store.specs.StoreState.{IsSettled};
 
 use crate::tables::{closed_within, script_of_steps};
 use graph_store::Store;

@@ -1,5 +1,5 @@
 //! A write of the answers fails: each of them in turn.
-ghost use Rattle.graph_store.specs.State.{IsSettled};
+ghost use Rattle.graph_store.specs.StoreState.{IsSettled};
 
 use crate::tables::{STEPS, closed_within, script_of_steps};
 use graph_store::Store;

@@ -1,6 +1,6 @@
 //! Larger graphs: a query of a thousand rows that is cut off, and a generated graph that loses half its triples.
 ghost use Rattle.std.specs.Prelude.{◌≤◌};
-ghost use Rattle.graph_store.specs.State.{IsSettled};
+ghost use Rattle.graph_store.specs.StoreState.{IsSettled};
 
 use crate::harness::{Pieces, run_over};
 use generated_triples::generated_triple;

@@ -1,5 +1,5 @@
 //! A larger graph changed by blocks of one line.
-ghost use Rattle.graph_store.specs.State.{IsSettled};
+ghost use Rattle.graph_store.specs.StoreState.{IsSettled};
 
 use graph_store::Store;
 use std::alloc::{AllocError, Global};

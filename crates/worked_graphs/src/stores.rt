@@ -1,6 +1,6 @@
 //! A store that is filled, refused, emptied and read, with the figures and lines that it tells.
 ghost use Rattle.std.specs.Prelude.{◌≡◌, ◌<◌, ◌≤◌, length};
-ghost use Rattle.graph_store.specs.State.{IsSettled};
+ghost use Rattle.graph_store.specs.StoreState.{IsSettled};
 ghost use Rattle.graph_store.specs.Staging.{Fits, AreMarked};
 
 use graph_store::{Changed, StageFault, Staged, Stats, Store, Taken};
@@ -57,8 +57,7 @@ fn put<M: Mix, W: Ledger, V: Ledger>(
     let Ok(mut scratch) = Scratch::new(alloc) else {
         return Err(StageFault::Memory);
     };
-    // This call tells the proof that the graph is small enough.
-    store.triples();
+    store.stands();
     let mut staged = Staged::new(alloc);
     if let Err(fault) = stage_line(store, &mut staged, first, &mut scratch) {
         store.abandon(staged);

@@ -1,6 +1,6 @@
 //! A read of a file fails: each of them in turn. The LOAD is refused as if it weren't there.
 ghost use Rattle.std.specs.Prelude.{◌<◌};
-ghost use Rattle.graph_store.specs.State.{IsSettled};
+ghost use Rattle.graph_store.specs.StoreState.{IsSettled};
 
 use crate::tables::{LOADED, LOADS, PEOPLE};
 use graph_store::Store;

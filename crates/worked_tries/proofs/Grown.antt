@@ -1,6 +1,6 @@
 -- A batch that is put into an empty graph, and the batch of the tests.
-use Rattle.std.specs.Prelude.{◌≡◌, ℕ, ◌||◌, true, [], ◌∷◌, refl}
-use Rattle.std.proofs.Common.{sym, ◌∙◌, ap, subst}
+use Rattle.std.specs.Prelude.{◌≡◌, ℕ, ◌≤◌, ◌||◌, true, List, [], ◌∷◌, length, refl}
+use Rattle.std.proofs.Common.{sym, ◌∙◌, ap, subst, arith}
 use Rattle.std.specs.List.Sorted.{IsStrictlySortedBy}
 use Rattle.std.specs.Ordering.{nat_cmp}
 use Rattle.std.specs.Cmp.{nat_cmp_total as total}
@@ -21,9 +21,10 @@ use Rattle.trie_context.specs.declared.tables.Tables.{Tables}
 use Rattle.trie_context.specs.Rows.{no_tables, row_of}
 use Rattle.trie_context.specs.Holds.{count_of}
 use Rattle.trie_context.specs.RowLaws.{empty_at}
-use Rattle.trie_context.specs.Roots.{root_set}
-use Rattle.trie_change.specs.Batches.{IsOnce}
+use Rattle.trie_context.specs.Roots.{root_set, IsHeld}
+use Rattle.trie_change.specs.Batches.{set_of_entries, IsOnce}
 use Rattle.trie_change.specs.BatchLaws.{order_once}
+use Rattle.trie_update.specs.Changed.{MayChangeGraph}
 
 -- where no row is, no count is
 pub counts_none : (t : Tables) → t ≡ no_tables → (d r : ℕ) → count_of (row_of t d r) ≡ 0
@@ -35,6 +36,19 @@ module _ (t : Tables) (root : Root) (A : IdSet) (none : root ≡ Empty) where
 
   pub all_put : set.union (root_set t root) A ≡ A
   all_put = ap (λ r. set.union (root_set t r) A) none ∙ same_sets total exact _ _ (λ u. has-after_in total exact (empty nat_cmp) A u ∙ ap (λ b. b || has A u) (set.contains-empty (slice_cmp nat_cmp) u))
+
+-- a batch may be put into empty tables
+pub may_grow_empty : (t : Tables) (root : Root) (batch : List Trip) → t ≡ no_tables → root ≡ Empty → IsOnce trip_tuple batch → length batch ≤ 1000 → MayChangeGraph true t root batch
+may_grow_empty t root batch tables none once few =
+    let B = set_of_entries trip_tuple batch in
+    let put = ap set.len (all_put t root B none) in
+    record {
+      held = subst (IsHeld t) (sym none) tt;
+      once = once;
+      change = all_new t root B none;
+      counts = λ d r. omega (arith, counts_none t tables d r);
+      size = omega (arith, once, few, put);
+    }
 
 abbrev pub trip : ℕ → ℕ → ℕ → Trip
 trip a b c = record { 0 = record { 0 = a }; 1 = record { 0 = b }; 2 = record { 0 = c } }

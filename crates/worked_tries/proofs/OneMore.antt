@@ -10,11 +10,10 @@ use Rattle.hypertrie_model.specs.SetLaws.{len-single}
 use Rattle.hypertrie_model.specs.Sets.{has, single}
 use Rattle.trie_context.specs.declared.root.Root.{Root}
 use Rattle.trie_context.specs.declared.tables.Tables.{Tables}
-use Rattle.trie_context.specs.Holds.{CountsRiseBy}
-use Rattle.trie_context.specs.Kept.{AreMoved}
-use Rattle.trie_context.specs.Roots.{root_set, root_hold, IsHeld}
+use Rattle.trie_context.specs.Roots.{root_set, IsHeld}
 use Rattle.trie_context.specs.RootShape.{OnlyRootHeld}
 use Rattle.trie_change.specs.Rooms.{CountsUpTo}
+use Rattle.trie_update.specs.Changed.{IsChanged}
 use Rattle.worked_tries.specs.OneMore.{IsReady, HasGrown}
 use Rattle.worked_tries.proofs.Alone.{alone_new}
 
@@ -22,10 +21,9 @@ module _ (t u : Tables) (old new : Root) (x : List ℕ) where
   -- what a call that puts the triple in says of it
   pub has_grown :
       {T E : Type 0} (mixed : ℕ → ℕ → ℕ → ℕ → ℕ) (r : Result T E) → OnlyRootHeld t old →
-      OnOk r (root_set u new ≡ set.union (root_set t old) (single nat_cmp x)) → OnOk r (AreMoved mixed t u (root_hold new) (root_hold old)) → OnOk r (CountsRiseBy t u (λ _ _. 2 ^ 65)) →
-      OnOk r (HasGrown t u old new x)
-  has_grown mixed (Ok v) only is moved risen = record { set = is; only = λ d r. omega (arith, moved.holds d r, only d r); counts = risen }
-  has_grown mixed (Err e) only is moved risen = tt
+      OnOk r (IsChanged mixed t u old new (set.union (root_set t old) (single nat_cmp x))) → OnOk r (HasGrown t u old new x)
+  has_grown mixed (Ok v) only now = record { set = now.set; only = λ d r. omega (arith, now.moved.holds d r, only d r); counts = now.counts }
+  has_grown mixed (Err e) only now = tt
 
   pub ready_again : has (root_set t old) x ≡ false → CountsUpTo t (2 ^ 95) → set.len (root_set t old) < 536870911 → IsHeld u new → HasGrown t u old new x → IsReady u new
   ready_again fresh few small held grown = record {

@@ -11,17 +11,16 @@ use Rattle.graph_store.proofs.CountLemmas.{counts_few, len-part}
 use Rattle.graph_store.proofs.RootLemmas.{root_held}
 use Rattle.graph_store.proofs.taken.take_out.Goals as goal
 
-pub shrink-requires-clause-held : goal.shrink-requires-clause-held
-shrink-requires-clause-held g c = root_held c.args.context.now c.args.root.now c.requires.only
-
-pub shrink-requires-clause-counts : goal.shrink-requires-clause-counts
-shrink-requires-clause-counts g c =
+pub shrink-requires : goal.shrink-requires
+shrink-requires g c =
     let t = c.args.context.now in
-    counts_few t (root_set t c.args.root.now) (root_shape g.M.Mix.mixed t c.tables.ensures.kept c.args.root.now c.requires.only) c.requires.few
-
-pub shrink-requires-clause-size : goal.shrink-requires-clause-size
-shrink-requires-clause-size g c =
-    let H = root_set c.args.context.now c.args.root.now in
+    let H = root_set t c.args.root.now in
     let B = set_of_entries trip_tuple c.args.batch.now in
     let within = len-part tuples_total tuples_exact H (set.union H B) (λ q e. or_cases (has H q) (has B q) (sym (set.contains-union tuples_total H B q) ∙ e) (has H q ≡ true) (λ a. a) (c.requires.there q)) in
-    omega (arith, within, c.requires.few)
+    record {
+      held = root_held t c.args.root.now c.requires.only;
+      once = c.requires.once;
+      change = c.requires.there;
+      counts = counts_few t H (root_shape g.M.Mix.mixed t c.is_kept.ensures c.args.root.now c.requires.only) c.requires.few;
+      size = omega (arith, within, c.requires.few);
+    }

@@ -4,7 +4,7 @@ use Rattle.run_model.specs.Sayings.{sayings}
 use Rattle.line_batch.specs.Batches.{ChangesStore}
 use Rattle.line_batch.specs.Loading.{Gathers, IsCounted, failed_read}
 use Rattle.line_batch.specs.Seen.{answer_of}
-use Rattle.line_batch.specs.Sound.{IsSound}
+use Rattle.line_batch.specs.Sound.{IsBetweenCommands}
 use Rattle.line_batch.proofs.LoadLemmas.{load_whole, load_refused, load_failed}
 use Rattle.line_batch.proofs.file_lines.load.Goals as goal
 
@@ -25,7 +25,7 @@ returns-in-Refused-clause-carries g c = λ A change has sound none.
     let h = subst (λ r. Gathers A c.args.store.now change c.args.scope.now c.args.name.now c.gather.new.store c.gather.new.reader.place r) c.in-Refused.is (c.gather.ensures.gathers A change has none) in
     record {
       failed = None;
-      carries = load_refused A _ change _ _ (subst (λ m. IsSound m c.args.store.now) (sym has.mixed) sound) _ h.0 _ h.1;
+      carries = load_refused A _ change _ _ (subst (λ m. IsBetweenCommands m c.args.store.now) (sym has.mixed) sound) _ h.0 _ h.1;
       counted = subst (λ r. IsCounted (g.F.Files.faults c.args.files.now) (g.F.Files.faults c.gather.new.files) (failed_read c.args.name.now c.gather.new.reader.place r)) c.in-Refused.is c.gather.ensures.counted;
     }
 
@@ -34,6 +34,6 @@ returns-in-Failed-clause-carries g c = λ A change has sound none.
     let h = subst (λ r. Gathers A c.args.store.now change c.args.scope.now c.args.name.now c.gather.new.store c.gather.new.reader.place r) c.in-Failed.is (c.gather.ensures.gathers A change has none) in
     record {
       failed = Some (record { name = c.args.name.now; place = c.gather.new.reader.place });
-      carries = load_failed A _ change _ _ (subst (λ m. IsSound m c.args.store.now) (sym has.mixed) sound) _ h.0 _ h.1;
+      carries = load_failed A _ change _ _ (subst (λ m. IsBetweenCommands m c.args.store.now) (sym has.mixed) sound) _ h.0 _ h.1;
       counted = subst (λ r. IsCounted (g.F.Files.faults c.args.files.now) (g.F.Files.faults c.gather.new.files) (failed_read c.args.name.now c.gather.new.reader.place r)) c.in-Failed.is c.gather.ensures.counted;
     }

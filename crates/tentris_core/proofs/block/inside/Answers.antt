@@ -3,7 +3,7 @@ use Rattle.std.specs.Prelude.{None}
 use Rattle.run_model.specs.Sayings.{sayings}
 use Rattle.script_model.specs.Commands as script
 use Rattle.line_batch.specs.Seen.{answer_of}
-use Rattle.line_batch.specs.Sound.{IsSound}
+use Rattle.line_batch.specs.Sound.{IsBetweenCommands}
 use Rattle.line_batch.specs.Batches.{lent_line, ChangesStore}
 use Rattle.tentris_core.specs.Places.{Outside, Inside}
 use Rattle.tentris_core.proofs.BlockLemmas.{ends_it, goes_on, block_step}
@@ -25,7 +25,7 @@ returns-then-ends g c = λ A s change body faults mixed sound h. record {
       failed = None;
       carries =
           block_step A s change body c.carry_out-answer.new.store (answer_of c.carry_out-answer.result)
-          (subst (λ m. ChangesStore m s change (sayings [] body) c.carry_out-answer.new.store (answer_of c.carry_out-answer.result)) (sym mixed) (c.carry_out-answer.ensures s change (sayings [] body) (subst (λ m. IsSound m s) mixed sound) h.batch));
+          (subst (λ m. ChangesStore m s change (sayings [] body) c.carry_out-answer.new.store (answer_of c.carry_out-answer.result)) (sym mixed) (c.carry_out-answer.ensures s change (sayings [] body) (subst (λ m. IsBetweenCommands m s) mixed sound) h.batch));
     },
     refl,
     counted_none faults,

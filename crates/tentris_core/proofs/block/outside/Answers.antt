@@ -5,7 +5,7 @@ use Rattle.script_model.specs.Commands.{trimmed}
 use Rattle.script_read.specs.Forms.{form_meant}
 use Rattle.answer_text.specs.declared.Refusal.TheVariants as cause
 use Rattle.line_batch.specs.declared.answer.Answer.TheVariants as answer
-use Rattle.tentris_core.specs.declared.block.Place.TheVariants as place
+use Rattle.tentris_core.specs.declared.block.Progress.TheVariants as place
 use Rattle.line_batch.specs.Batches.{lent_line}
 use Rattle.tentris_core.specs.Places.{Outside, MeetsLine}
 use Rattle.tentris_core.proofs.BlockLemmas.{meets_note, meets_command, meets_bad, meets_begin, reads_none, sound_of, generate_of, form_scope}

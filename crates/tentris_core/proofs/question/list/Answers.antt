@@ -2,7 +2,7 @@ use Rattle.std.proofs.Common.{true, ◌≡◌, ◌==◌, length, List, refl, sym
 use Rattle.std.specs.List.{list_all}
 use Rattle.std.specs.declared.option.Option.{Option}
 use Rattle.query_plan.specs.Seen.{query_seen}
-use Rattle.graph_store.specs.State.{graph}
+use Rattle.graph_store.specs.StoreState.{graph}
 use Rattle.solution_model.specs.Rows.{Row}
 use Rattle.std.specs.Prelude.{ℕ}
 use Rattle.tentris_core.proofs.QuestionLemmas.{lack_answer, rows_answer, wide_answers}

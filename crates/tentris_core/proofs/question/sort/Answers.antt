@@ -3,7 +3,7 @@ use Rattle.std.specs.List.{list_all}
 use Rattle.std.specs.declared.option.Option.{Option}
 use Rattle.std.specs.Prelude.{ℕ}
 use Rattle.query_plan.specs.Seen.{query_seen}
-use Rattle.graph_store.specs.State.{graph}
+use Rattle.graph_store.specs.StoreState.{graph}
 use Rattle.solution_model.specs.Rows.{Row}
 use Rattle.sorted_rows.specs.Sorted.{GivesAllRows}
 use Rattle.tentris_core.proofs.QuestionLemmas.{lack_answer, sorted_question, wide_answers, all_rows_given}

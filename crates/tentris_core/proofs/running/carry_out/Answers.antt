@@ -1,7 +1,7 @@
 use Rattle.std.proofs.Common.{rules, arith, ◌∙◌, refl, sym, ap, subst}
 use Rattle.std.specs.Prelude.{Ok, Err}
 use Rattle.tentris_core.specs.Puts.{IsPassedOn}
-use Rattle.line_batch.specs.Sound.{IsSound}
+use Rattle.line_batch.specs.Sound.{IsBetweenCommands}
 use Rattle.tentris_core.proofs.RunLemmas.{ready, run_starts, run_finishes, run_been, run_fails, run_too_long, run_line, run_answered, run_cut_off, next_at, takes_at, ends_in, taken_in, front_in, cut_in, around_same, shown_last, seen_at, settled_at}
 use Rattle.tentris_core.proofs.running.carry_out.Goals as goal
 
@@ -93,7 +93,7 @@ pub returns-in-Cut-clause-sound : goal.returns-in-Cut-clause-sound
 returns-in-Cut-clause-sound g c =
     let same = around_same c.lines.invariant.sorted c.lines.invariant.most c.lines.invariant.files in
     let taken = takes_at _ _ _ _ c.told_line-line.ensures.line c.in-Cut.is (c.take_line-next.ensures.takes _ _ _ same c.lines.invariant.ran.sound c.lines.invariant.ran.is_at) in
-    subst (IsSound g.M.Mix.mixed) (sym (c.abandon-in-Cut.ensures _ _ taken.is_at)) taken.leads.0.carries.sound
+    subst (IsBetweenCommands g.M.Mix.mixed) (sym (c.abandon-in-Cut.ensures _ _ taken.is_at)) taken.leads.0.carries.sound
 
 pub returns-in-Cut-clause-ends : goal.returns-in-Cut-clause-ends
 returns-in-Cut-clause-ends g c =
@@ -106,4 +106,4 @@ returns-in-Cut-clause-ends g c =
 pub returns-in-Ok-None-clause-sound : goal.returns-in-Ok-None-clause-sound
 returns-in-Ok-None-clause-sound g c =
     let been = run_been _ _ _ _ _ _ _ _ c.lines.invariant.ran in
-    subst (IsSound g.M.Mix.mixed) (sym (c.finish.ensures.store been)) been.sound
+    subst (IsBetweenCommands g.M.Mix.mixed) (sym (c.finish.ensures.store been)) been.sound

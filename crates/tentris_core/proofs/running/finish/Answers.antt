@@ -1,5 +1,5 @@
 use Rattle.std.proofs.Common.{subst, sym}
-use Rattle.graph_store.specs.State.{IsSettled}
+use Rattle.graph_store.specs.StoreState.{IsSettled}
 use Rattle.tentris_core.proofs.RunLemmas.{ready}
 use Rattle.tentris_core.proofs.running.finish.Goals as goal
 

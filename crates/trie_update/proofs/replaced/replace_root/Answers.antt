@@ -1,13 +1,22 @@
-use Rattle.std.proofs.Common.{◌+◌, ◌≤◌, sym, subst, arith}
+use Rattle.std.proofs.Common.{◌∙◌, ◌∷◌, ◌+◌, ◌≤◌, ◌^◌, ap, sym, subst, refl, arith}
+use Rattle.std.specs.Cmp.{nat_cmp_total as total}
+use Rattle.std.specs.FinMap.{nat_cmp-IsAntisymmetric as exact}
 use Rattle.std.specs.FinSet as set
 use Rattle.hypertrie_model.specs.Changes.{IsChange}
+use Rattle.hypertrie_model.specs.SliceSizes.{len-union_parts}
 use Rattle.trie_depth.specs.Tuples.{trip_tuple}
-use Rattle.trie_context.specs.MoveLaws.{held_there}
-use Rattle.trie_context.specs.Roots.{root_set, IsHeld}
+use Rattle.trie_context.specs.Holds.{nothing}
+use Rattle.trie_context.specs.MoveLaws.{held_there, moved_as}
+use Rattle.trie_context.specs.Roots.{root_set, root_hold, IsHeld}
 use Rattle.trie_context.specs.Rows.{set_of}
+use Rattle.trie_context.specs.RootShape.{OnlyRootHeld}
+use Rattle.change_log.specs.declared.step.RowStep.TheVariants.{Replaced}
+use Rattle.change_log.specs.declared.step.Step.TheVariants.{Triples}
+use Rattle.change_log.specs.Laws.{logged_replaced, logged_as}
+use Rattle.change_log.specs.Log.{edge_hold}
+use Rattle.change_log.specs.Logged.{IsLogged}
 use Rattle.trie_change.specs.Batches.{set_of_entries}
 use Rattle.trie_change.specs.Changes.{grows}
-use Rattle.trie_context.specs.RootShape.{OnlyRootHeld}
 use Rattle.trie_update.specs.Retained.{change_retains}
 use Rattle.trie_update.proofs.RootHolds.{only_row}
 use Rattle.trie_update.proofs.Sizes.{at_most_both, two_left}
@@ -20,11 +29,12 @@ reopen_triples-requires-clause-batch g c =
     let B = set_of_entries trip_tuple c.args.batch.now in
     let is = c.in-Some.ensures.there in
     let may = subst (λ r. IsChange (grows c.args.change) (root_set t r) B) is c.requires.change in
+    let parts = len-union_parts total exact (set_of t 3 row) B in
     record {
       there = held_there t 3 row (subst (IsHeld t) is c.requires.held);
       once = c.requires.once;
       change = may;
-      size = omega (arith, at_most_both c.args.change (set_of t 3 row) B may _ c.requires.once, subst (λ r. set.len (root_set t r) ≤ 536870912) is c.requires.size, c.requires.batch);
+      size = omega (arith, at_most_both c.args.change (set_of t 3 row) B may _ c.requires.once, subst (λ r. set.len (set.union (root_set t r) B) ≤ 536870912) is c.requires.size, parts, c.requires.once);
     }
 
 pub reopen_triples-requires-clause-left : goal.reopen_triples-requires-clause-left
@@ -41,3 +51,23 @@ returns-in-Some-clause-retained g c only =
     let is = c.in-Some.ensures.there in
     subst (λ r. c.reopen_triples.new.retains ≤ c.args.retains.now + change_retains c.args.change t r c.args.batch.now) (sym is)
     (omega (arith, c.reopen_triples.ensures.retained (only_row t row (subst (OnlyRootHeld t) is only))))
+
+pub change_graph-requires-clause-size : goal.change_graph-requires-clause-size
+change_graph-requires-clause-size g c = omega (arith, c.requires.size, len-union_parts total exact (root_set c.args.context.now c.args.root.now) (set_of_entries trip_tuple c.args.batch.now))
+
+pub change_graph-requires-clause-batch : goal.change_graph-requires-clause-batch
+change_graph-requires-clause-batch g c = omega (arith, c.requires.size, c.requires.once, len-union_parts total exact (root_set c.args.context.now c.args.root.now) (set_of_entries trip_tuple c.args.batch.now))
+
+pub returns-in-None-clause-logged : goal.returns-in-None-clause-logged
+returns-in-None-clause-logged g c =
+    let t = c.args.context.now in
+    let u = c.change_graph.new.context in
+    let log = c.args.log.now.steps in
+    let new_edge = c.root_edge-2.result in
+    let old_edge = c.root_edge.result in
+    let h = c.in_ok-new.ensures.held in
+    let moved = moved_as h.moved (edge_hold 3 new_edge) nothing (λ d r. omega (arith, c.root_edge-2.ensures d r)) in
+    subst (λ steps. IsLogged g.M.Mix.mixed t u log steps (root_hold c.in_ok-new.new) (root_hold c.args.root.now) (2 ^ 65)) (sym (c.push.ensures ∙ ap (λ l. Triples (Replaced old_edge new_edge) ∷ l) c.in_ok-reserve.ensures.same))
+    (logged_as g.M.Mix.mixed t u log (Triples (Replaced old_edge new_edge) ∷ log) (edge_hold 3 new_edge) (edge_hold 3 old_edge) (2 ^ 65)
+    (logged_replaced g.M.Mix.mixed t u log (Triples (Replaced old_edge new_edge)) c.is_kept.ensures (moved, h.stay) 3 old_edge new_edge (2 ^ 65) moved h.stay h.counts (λ e r. refl))
+    (root_hold c.in_ok-new.new) (root_hold c.args.root.now) (2 ^ 65) c.root_edge-2.ensures c.root_edge.ensures (omega arith))

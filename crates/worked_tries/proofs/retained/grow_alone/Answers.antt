@@ -11,17 +11,17 @@ use Rattle.worked_tries.proofs.Alone.{alone_new, no_extra}
 use Rattle.worked_tries.proofs.OneMore.{has_grown}
 use Rattle.worked_tries.proofs.retained.grow_alone.Goals as goal
 
-pub grow-requires-clause-once : goal.grow-requires-clause-once
-grow-requires-clause-once g c = len-single total exact (trip_tuple c.args.triple)
-
-pub grow-requires-clause-new : goal.grow-requires-clause-new
-grow-requires-clause-new g c = alone_new (root_set c.args.context.now c.args.root.now) (trip_tuple c.args.triple) c.requires.new
-
-pub grow-requires-clause-size : goal.grow-requires-clause-size
-grow-requires-clause-size g c =
+pub grow-requires : goal.grow-requires
+grow-requires g c =
     let G = root_set c.args.context.now c.args.root.now in
     let t = trip_tuple c.args.triple in
-    omega (arith, c.requires.ready.size, len-grown total exact G (single nat_cmp t) (alone_new G t c.requires.new), len-single total exact t)
+    record {
+      held = c.requires.ready.held;
+      once = len-single total exact t;
+      change = alone_new G t c.requires.new;
+      counts = c.requires.ready.counts;
+      size = omega (arith, c.requires.ready.size, len-grown total exact G (single nat_cmp t) (alone_new G t c.requires.new), len-single total exact t);
+    }
 
 pub returns-clause-retained : goal.returns-clause-retained
 returns-clause-retained g c =
@@ -30,4 +30,4 @@ returns-clause-retained g c =
 pub returns-clause-grown : goal.returns-clause-grown
 returns-clause-grown g c =
     has_grown c.args.context.now c.grow.new.context c.args.root.now c.grow.new.root (trip_tuple c.args.triple) g.M.Mix.mixed c.grow.result
-    c.requires.ready.only c.grow.ensures.set c.grow.ensures.moved c.grow.ensures.counts
+    c.requires.ready.only c.grow.ensures.changed

@@ -1,7 +1,7 @@
 use Rattle.std.proofs.Common.{rules, arith, ◌≡◌, ◌∙◌, sym, ap, subst, false, length}
 use Rattle.std.specs.Prelude.{[], Ok}
 use Rattle.tn_io.specs.CutterState.{whole_to_come}
-use Rattle.file_read.specs.ReaderState.{State, not_yet}
+use Rattle.file_read.specs.ReaderState.{ReaderState, not_yet}
 use Rattle.file_read.specs.ReaderCalls.{Takes, EndsAt}
 use Rattle.file_read.proofs.ReaderLemmas.{takes_both, takes_same, next_is, fails, too_long, last_is}
 use Rattle.file_read.proofs.reader.FileReader.next_line.Goals as goal
@@ -13,16 +13,16 @@ returns-in-Some-clause-next g c =
 pub returns-then-self-2-clause-next : goal.returns-then-self-2-clause-next
 returns-then-self-2-clause-next g c =
     too_long _ _ _ _ (takes_both _ _ _ _ _ c.reads.invariant.takes (takes_same _ _ _ _ c.in_default.ensures.still)) (sym (ap (λ s. s.ended) c.self.view_is) ∙ c.if-self.false)
-    (c.cut.ensures.all c.in_default.is) (omega (arith, c.if-self-2.true, ap (λ (s : State). s.max) c.self-in-reads.view_is, ap (λ (s : State). s.place) c.self-in-reads.view_is)) c.cut.ensures.none_left
+    (c.cut.ensures.all c.in_default.is) (omega (arith, c.if-self-2.true, ap (λ (s : ReaderState). s.max) c.self-in-reads.view_is, ap (λ (s : ReaderState). s.place) c.self-in-reads.view_is)) c.cut.ensures.none_left
 
 pub returns-in_default-refill-clause-next : goal.returns-in_default-refill-clause-next
 returns-in_default-refill-clause-next g c =
     let same = c.in_default-refill.ensures.err in
     let read = subst (λ f. Takes f c.args.name.now c.cut.new.self c.refill.new.self) c.reads.invariant.same c.refill.ensures.takes in
     let takes = takes_both _ _ _ _ _ c.reads.invariant.takes (takes_both _ _ _ _ _ (takes_same _ _ _ _ c.in_default.ensures.still) read) in
-    fails _ _ _ _ takes (sym (ap (λ s. s.ended) c.self.view_is) ∙ c.if-self.false) (ap (λ (s : State). s.ahead) same ∙ c.cut.ensures.all c.in_default.is)
-    (omega (arith, c.if-self-2.false, ap (λ (s : State). s.max) c.self-in-reads.view_is, ap (λ (s : State). s.place) c.self-in-reads.view_is, ap (λ (s : State). s.max) same, ap (λ (s : State). s.place) same))
-    (ap (λ (s : State). whole_to_come s.cutter []) same ∙ c.cut.ensures.none_left)
+    fails _ _ _ _ takes (sym (ap (λ s. s.ended) c.self.view_is) ∙ c.if-self.false) (ap (λ (s : ReaderState). s.ahead) same ∙ c.cut.ensures.all c.in_default.is)
+    (omega (arith, c.if-self-2.false, ap (λ (s : ReaderState). s.max) c.self-in-reads.view_is, ap (λ (s : ReaderState). s.place) c.self-in-reads.view_is, ap (λ (s : ReaderState). s.max) same, ap (λ (s : ReaderState). s.place) same))
+    (ap (λ (s : ReaderState). whole_to_come s.cutter []) same ∙ c.cut.ensures.none_left)
 
 pub returns-then-not-more-clause-next : goal.returns-then-not-more-clause-next
 returns-then-not-more-clause-next g c =
@@ -31,9 +31,9 @@ returns-then-not-more-clause-next g c =
     let read = subst (λ f. Takes f c.args.name.now c.cut.new.self c.refill.new.self) c.reads.invariant.same c.refill.ensures.takes in
     let takes = takes_both _ _ _ _ _ c.reads.invariant.takes (takes_both _ _ _ _ _ (takes_same _ _ _ _ c.in_default.ensures.still) read) in
     let at_end = subst (λ f. EndsAt f c.args.name.now c.refill.new.self.place) c.reads.invariant.same
-    (subst (λ p. EndsAt (g.F.Files.files c.reads.files) c.args.name.now p) (sym (ap (λ (s : State). s.place) same)) (c.refill.ensures.at_end none)) in
-    last_is _ _ _ _ takes (sym (ap (λ s. s.ended) c.self.view_is) ∙ c.if-self.false) _ (ap (λ (s : State). s.ahead) same ∙ c.cut.ensures.all c.in_default.is)
-    (omega (arith, c.if-self-2.false, ap (λ (s : State). s.max) c.self-in-reads.view_is, ap (λ (s : State). s.place) c.self-in-reads.view_is, ap (λ (s : State). s.max) same, ap (λ (s : State). s.place) same))
+    (subst (λ p. EndsAt (g.F.Files.files c.reads.files) c.args.name.now p) (sym (ap (λ (s : ReaderState). s.place) same)) (c.refill.ensures.at_end none)) in
+    last_is _ _ _ _ takes (sym (ap (λ s. s.ended) c.self.view_is) ∙ c.if-self.false) _ (ap (λ (s : ReaderState). s.ahead) same ∙ c.cut.ensures.all c.in_default.is)
+    (omega (arith, c.if-self-2.false, ap (λ (s : ReaderState). s.max) c.self-in-reads.view_is, ap (λ (s : ReaderState). s.place) c.self-in-reads.view_is, ap (λ (s : ReaderState). s.max) same, ap (λ (s : ReaderState). s.place) same))
     at_end c.finish.ensures.max c.finish.ensures.ended c.finish.result c.finish.ensures.last
 
 pub reads-preserved : goal.reads-preserved

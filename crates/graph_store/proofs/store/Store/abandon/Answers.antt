@@ -1,13 +1,13 @@
 use Rattle.std.proofs.Common.{◌≡◌, sym, ◌∙◌, ap, subst}
 use Rattle.trie_context.specs.Roots.{root_set}
 use Rattle.graph_image.specs.Images.{graph_of, terms_of, HasExactly, without}
-use Rattle.graph_store.specs.State.{State, IsSound, graph}
+use Rattle.graph_store.specs.StoreState.{StoreState, IsSoundStore, graph}
 use Rattle.graph_store.specs.Staging.{Staging, numbers, Fits}
 use Rattle.graph_store.proofs.StagingLemmas.{before_sound, before_graph, before_settled}
 use Rattle.graph_store.proofs.store.Store.abandon.Given as given
 use Rattle.graph_store.proofs.store.Store.abandon.Goals as goal
 
-state : (g : given.Over) → goal.After-drop-added g → State
+state : (g : given.Over) → goal.After-drop-added g → StoreState
 state g c = record { dict = c.self.inside.dict; tables = c.self.inside.ctx; root = c.self.inside.root; max = c.self.inside.max }
 
 staging : (g : given.Over) → goal.After-drop-added g → Staging
@@ -24,7 +24,7 @@ pub invariant_of-self : goal.invariant_of-self
 unfolding state staging
 invariant_of-self g c =
     let i = c.self.inside in
-    subst (λ m. IsSound m i.ctx i.root i.max) (sym (gone g c)) (before_sound i.dict i.ctx i.root i.max (staging g c) c.self.invariant (fits g c))
+    subst (λ m. IsSoundStore m i.ctx i.root i.max) (sym (gone g c)) (before_sound i.dict i.ctx i.root i.max (staging g c) c.self.invariant (fits g c))
 
 pub returns-clause-graph : goal.returns-clause-graph
 unfolding state staging

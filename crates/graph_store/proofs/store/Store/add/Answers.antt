@@ -5,7 +5,7 @@ use Rattle.rdf_term.specs.Seen.{lent_triple}
 use Rattle.trie_depth.specs.Tuples.{trip_tuple}
 use Rattle.trie_context.specs.Roots.{root_set}
 use Rattle.graph_image.specs.Images.{graph_of}
-use Rattle.graph_store.specs.State.{State, graph, most_triples}
+use Rattle.graph_store.specs.StoreState.{StoreState, graph, most_triples}
 use Rattle.graph_store.specs.Staging.{Staging, numbers, staged_graph, Fits, before}
 use Rattle.graph_store.proofs.RootLemmas.{root_there}
 use Rattle.graph_store.proofs.TermsLemmas.{found_triple}
@@ -15,7 +15,7 @@ use Rattle.graph_store.proofs.store.Store.add.Goals as goal
 pub intern_triple-requires : goal.intern_triple-requires
 intern_triple-requires g c =
     let i = c.self.inside in
-    let s : State = record { dict = i.dict; tables = i.ctx; root = i.root; max = i.max } in
+    let s : StoreState = record { dict = i.dict; tables = i.ctx; root = i.root; max = i.max } in
     let b : Staging = record { triples = c.staged.inside.trips; added = numbers c.staged.inside.added.items } in
     let f : Fits s b = fits_back c.args.self.now s c.args.staged.now b c.self.view_is c.staged.view_is c.requires.fits in
     let few = terms_few i.dict i.ctx i.root i.max b c.self.invariant f c.is_one_to_one.ensures in
@@ -27,7 +27,7 @@ of-requires-clause-there g c = root_there c.self.inside.ctx c.self.inside.root c
 pub of-requires-clause-known : goal.of-requires-clause-known
 of-requires-clause-known g c =
     let i = c.self.inside in
-    let s : State = record { dict = i.dict; tables = i.ctx; root = i.root; max = i.max } in
+    let s : StoreState = record { dict = i.dict; tables = i.ctx; root = i.root; max = i.max } in
     let b : Staging = record { triples = c.staged.inside.trips; added = numbers c.staged.inside.added.items } in
     let f : Fits s b = fits_back c.args.self.now s c.args.staged.now b c.self.view_is c.staged.view_is c.requires.fits in
     (grown_sound i.dict i.ctx i.root i.max b c.self.invariant f c.staged.inside.added.items c.intern_triple.new.noted.items refl c.intern_triple.new.dict c.in_ok-trip.ensures.grows).known
@@ -35,7 +35,7 @@ of-requires-clause-known g c =
 pub invariant_of-self-then-has : goal.invariant_of-self-then-has
 invariant_of-self-then-has g c =
     let i = c.self.inside in
-    let s : State = record { dict = i.dict; tables = i.ctx; root = i.root; max = i.max } in
+    let s : StoreState = record { dict = i.dict; tables = i.ctx; root = i.root; max = i.max } in
     let b : Staging = record { triples = c.staged.inside.trips; added = numbers c.staged.inside.added.items } in
     let f : Fits s b = fits_back c.args.self.now s c.args.staged.now b c.self.view_is c.staged.view_is c.requires.fits in
     let noted = c.staged.inside.added.items in
@@ -47,7 +47,7 @@ invariant_of-self-then-has g c =
 pub returns-then-has-clause-graph : goal.returns-then-has-clause-graph
 returns-then-has-clause-graph g c =
     let i = c.self.inside in
-    let s : State = record { dict = i.dict; tables = i.ctx; root = i.root; max = i.max } in
+    let s : StoreState = record { dict = i.dict; tables = i.ctx; root = i.root; max = i.max } in
     let b : Staging = record { triples = c.staged.inside.trips; added = numbers c.staged.inside.added.items } in
     let f : Fits s b = fits_back c.args.self.now s c.args.staged.now b c.self.view_is c.staged.view_is c.requires.fits in
     let noted = c.staged.inside.added.items in
@@ -59,7 +59,7 @@ returns-then-has-clause-graph g c =
 pub returns-then-has-clause-before : goal.returns-then-has-clause-before
 returns-then-has-clause-before g c =
     let i = c.self.inside in
-    let s : State = record { dict = i.dict; tables = i.ctx; root = i.root; max = i.max } in
+    let s : StoreState = record { dict = i.dict; tables = i.ctx; root = i.root; max = i.max } in
     let b : Staging = record { triples = c.staged.inside.trips; added = numbers c.staged.inside.added.items } in
     let f : Fits s b = fits_back c.args.self.now s c.args.staged.now b c.self.view_is c.staged.view_is c.requires.fits in
     let noted = c.staged.inside.added.items in
@@ -72,7 +72,7 @@ returns-then-has-clause-before g c =
 pub returns-then-has-clause-fits : goal.returns-then-has-clause-fits
 returns-then-has-clause-fits g c =
     let i = c.self.inside in
-    let s : State = record { dict = i.dict; tables = i.ctx; root = i.root; max = i.max } in
+    let s : StoreState = record { dict = i.dict; tables = i.ctx; root = i.root; max = i.max } in
     let b : Staging = record { triples = c.staged.inside.trips; added = numbers c.staged.inside.added.items } in
     let f : Fits s b = fits_back c.args.self.now s c.args.staged.now b c.self.view_is c.staged.view_is c.requires.fits in
     let noted = c.staged.inside.added.items in
@@ -86,7 +86,7 @@ returns-then-has-clause-fits g c =
 pub returns-then-has-clause-staged : goal.returns-then-has-clause-staged
 returns-then-has-clause-staged g c =
     let i = c.self.inside in
-    let s : State = record { dict = i.dict; tables = i.ctx; root = i.root; max = i.max } in
+    let s : StoreState = record { dict = i.dict; tables = i.ctx; root = i.root; max = i.max } in
     let b : Staging = record { triples = c.staged.inside.trips; added = numbers c.staged.inside.added.items } in
     let f : Fits s b = fits_back c.args.self.now s c.args.staged.now b c.self.view_is c.staged.view_is c.requires.fits in
     let noted = c.staged.inside.added.items in
@@ -104,7 +104,7 @@ returns-then-has-clause-staged g c =
 pub invariant_of-self-in_default : goal.invariant_of-self-in_default
 invariant_of-self-in_default g c =
     let i = c.self.inside in
-    let s : State = record { dict = i.dict; tables = i.ctx; root = i.root; max = i.max } in
+    let s : StoreState = record { dict = i.dict; tables = i.ctx; root = i.root; max = i.max } in
     let b : Staging = record { triples = c.staged.inside.trips; added = numbers c.staged.inside.added.items } in
     let f : Fits s b = fits_back c.args.self.now s c.args.staged.now b c.self.view_is c.staged.view_is c.requires.fits in
     let noted = c.staged.inside.added.items in
@@ -116,7 +116,7 @@ invariant_of-self-in_default g c =
 pub returns-clause-graph : goal.returns-clause-graph
 returns-clause-graph g c =
     let i = c.self.inside in
-    let s : State = record { dict = i.dict; tables = i.ctx; root = i.root; max = i.max } in
+    let s : StoreState = record { dict = i.dict; tables = i.ctx; root = i.root; max = i.max } in
     let b : Staging = record { triples = c.staged.inside.trips; added = numbers c.staged.inside.added.items } in
     let f : Fits s b = fits_back c.args.self.now s c.args.staged.now b c.self.view_is c.staged.view_is c.requires.fits in
     let noted = c.staged.inside.added.items in
@@ -128,7 +128,7 @@ returns-clause-graph g c =
 pub returns-clause-before : goal.returns-clause-before
 returns-clause-before g c =
     let i = c.self.inside in
-    let s : State = record { dict = i.dict; tables = i.ctx; root = i.root; max = i.max } in
+    let s : StoreState = record { dict = i.dict; tables = i.ctx; root = i.root; max = i.max } in
     let b : Staging = record { triples = c.staged.inside.trips; added = numbers c.staged.inside.added.items } in
     let f : Fits s b = fits_back c.args.self.now s c.args.staged.now b c.self.view_is c.staged.view_is c.requires.fits in
     let noted = c.staged.inside.added.items in
@@ -141,7 +141,7 @@ returns-clause-before g c =
 pub returns-clause-fits : goal.returns-clause-fits
 returns-clause-fits g c =
     let i = c.self.inside in
-    let s : State = record { dict = i.dict; tables = i.ctx; root = i.root; max = i.max } in
+    let s : StoreState = record { dict = i.dict; tables = i.ctx; root = i.root; max = i.max } in
     let b : Staging = record { triples = c.staged.inside.trips; added = numbers c.staged.inside.added.items } in
     let f : Fits s b = fits_back c.args.self.now s c.args.staged.now b c.self.view_is c.staged.view_is c.requires.fits in
     let noted = c.staged.inside.added.items in
@@ -158,7 +158,7 @@ returns-clause-fits g c =
 pub returns-clause-staged : goal.returns-clause-staged
 returns-clause-staged g c =
     let i = c.self.inside in
-    let s : State = record { dict = i.dict; tables = i.ctx; root = i.root; max = i.max } in
+    let s : StoreState = record { dict = i.dict; tables = i.ctx; root = i.root; max = i.max } in
     let b : Staging = record { triples = c.staged.inside.trips; added = numbers c.staged.inside.added.items } in
     let f : Fits s b = fits_back c.args.self.now s c.args.staged.now b c.self.view_is c.staged.view_is c.requires.fits in
     let noted = c.staged.inside.added.items in

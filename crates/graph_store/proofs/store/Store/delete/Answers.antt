@@ -11,7 +11,7 @@ use Rattle.trie_view.specs.Subs.{sub_set}
 use Rattle.graph_view.specs.Read.{set_in}
 use Rattle.graph_image.specs.Images.{graph_of, terms_of, HasExactly, is_among, IsUsed}
 use Rattle.graph_image.specs.ImageLaws.{len-graph_of, known_difference}
-use Rattle.graph_store.specs.State.{graph, triples_of}
+use Rattle.graph_store.specs.StoreState.{graph, triples_of}
 use Rattle.graph_store.specs.Staging.{numbers, marked_graph}
 use Rattle.graph_store.specs.Forgotten.{Forgets}
 use Rattle.graph_store.proofs.RootLemmas.{root_there, operand_set}

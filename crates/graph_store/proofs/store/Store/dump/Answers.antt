@@ -5,7 +5,7 @@ use Rattle.rdf_model.specs.Graph.{Graph, triples_total, exact_triples}
 use Rattle.rdf_model.specs.Dumps.{dump_lines}
 use Rattle.rdf_model.specs.MemberLaws.{sorted_texts_only}
 use Rattle.graph_image.specs.Images.{graph_of}
-use Rattle.graph_store.specs.State.{graph}
+use Rattle.graph_store.specs.StoreState.{graph}
 use Rattle.graph_store.proofs.store.Store.dump.Goals as goal
 
 pub returns-clause-value : goal.returns-clause-value

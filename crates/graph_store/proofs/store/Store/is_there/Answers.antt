@@ -6,7 +6,7 @@ use Rattle.trie_depth.specs.Tuples.{trip_tuple}
 use Rattle.term_dict.specs.Dict.{IsOneToOne}
 use Rattle.graph_image.specs.Images.{graph_of, AreKnown}
 use Rattle.trie_context.specs.Roots.{root_set}
-use Rattle.graph_store.specs.State.{State, graph, triples_of}
+use Rattle.graph_store.specs.StoreState.{StoreState, graph, triples_of}
 use Rattle.graph_store.specs.Staging.{staged_graph, Fits}
 use Rattle.graph_store.proofs.TermsLemmas.{not_in_graph, found_triple}
 use Rattle.graph_store.proofs.store.Store.is_there.Goals as goal
@@ -16,7 +16,7 @@ returns-in_default g c =
     let i = c.self.inside in
     let t = lent_triple c.args.triple in
     let b = c.args.staged.now in
-    let s : State = record { dict = i.dict; tables = i.ctx; root = i.root; max = i.max } in
+    let s : StoreState = record { dict = i.dict; tables = i.ctx; root = i.root; max = i.max } in
     let f : Fits s b = subst (λ x. Fits x b) (sym c.self.view_is) c.requires in
     let lacks = c.in_default.ensures.none refl in
     sym (ap (λ x. set.contains (graph x) t || set.contains (staged_graph x b) t) (sym c.self.view_is)

@@ -10,7 +10,7 @@ use Rattle.trie_context.specs.Roots.{root_set}
 use Rattle.term_dict.specs.Dict.{IsOneToOne}
 use Rattle.graph_image.specs.Images.{graph_of}
 use Rattle.graph_image.specs.ImageLaws.{tuples_total, tuples_exact, graph_of-insert}
-use Rattle.graph_store.specs.State.{graph, triples_of}
+use Rattle.graph_store.specs.StoreState.{graph, triples_of}
 use Rattle.graph_store.specs.Staging.{marked_graph}
 use Rattle.graph_store.proofs.TermsLemmas.{not_in_graph, found_triple, triple_is}
 use Rattle.graph_store.proofs.store.Store.mark.Goals as goal

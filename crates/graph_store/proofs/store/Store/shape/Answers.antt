@@ -3,7 +3,7 @@ use Rattle.std.proofs.lemmas.Result.{IfOk-weaker}
 use Rattle.trie_context.specs.Shape.{HasShape}
 use Rattle.graph_image.specs.Images.{graph_of, AreKnown}
 use Rattle.graph_shape.specs.GraphShapes.{shape_lines}
-use Rattle.graph_store.specs.State.{triples_of}
+use Rattle.graph_store.specs.StoreState.{triples_of}
 use Rattle.graph_store.proofs.store.Store.shape.Goals as goal
 
 pub shape_lines-requires : goal.shape_lines-requires

@@ -1,7 +1,7 @@
 use Rattle.std.proofs.Common.{◌≡◌, ◌≤◌, ◌+◌, ◌∙◌, sym, ap, arith, rules}
 use Rattle.std.specs.FinSet as set
 use Rattle.rdf_term.specs.Seen.{lent_triple}
-use Rattle.graph_store.specs.State.{graph}
+use Rattle.graph_store.specs.StoreState.{graph}
 use Rattle.graph_store.specs.Staging.{staged_graph}
 use Rattle.graph_store.proofs.FullLemmas.{there_already, new_full}
 use Rattle.graph_store.proofs.store.Store.stage.Goals as goal

@@ -1,11 +1,9 @@
-use Rattle.std.proofs.Common.{◌∙◌, sym, ap, subst}
+use Rattle.std.proofs.Common.{◌∙◌, sym, ap}
 use Rattle.std.specs.FinSet as set
 use Rattle.trie_context.specs.Roots.{root_set}
 use Rattle.graph_image.specs.ImageLaws.{len-graph_of}
-use Rattle.graph_store.specs.State.{graph}
-use Rattle.graph_store.specs.Stands.{Stands}
+use Rattle.graph_store.specs.StoreState.{graph}
 use Rattle.graph_store.proofs.RootLemmas.{root_there}
-use Rattle.graph_store.proofs.StandsLemmas.{stands}
 use Rattle.graph_store.proofs.store.Store.triples.Goals as goal
 
 pub of-requires-clause-there : goal.of-requires-clause-there
@@ -17,8 +15,3 @@ returns-clause-value g c =
     c.len.ensures ∙ (λ j. set.len (root_set (c.of.ensures.tables j) (c.of.ensures.root j)))
     ∙ sym (len-graph_of i.dict c.of.ensures.one (root_set i.ctx i.root) c.self.invariant.known)
     ∙ ap (λ s. set.len (graph s)) c.self.view_is
-
-pub returns-clause-stands : goal.returns-clause-stands
-returns-clause-stands g c =
-    let i = c.self.inside in
-    subst (Stands g.M.Mix.mixed) c.self.view_is (stands g.M.Mix.mixed (record { dict = i.dict; tables = i.ctx; root = i.root; max = i.max }) c.of.ensures.kept c.self.invariant c.of.ensures.one)

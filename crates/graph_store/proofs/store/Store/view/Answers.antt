@@ -4,7 +4,7 @@ use Rattle.trie_context.specs.RootShape.{root_shape}
 use Rattle.trie_context.specs.Shape.{HasShape}
 use Rattle.term_dict.specs.Dict.{IsOneToOne}
 use Rattle.graph_image.specs.Images.{AreKnown}
-use Rattle.graph_store.specs.State.{triples_of}
+use Rattle.graph_store.specs.StoreState.{triples_of}
 use Rattle.graph_store.proofs.RootLemmas.{root_there}
 use Rattle.graph_store.proofs.store.Store.view.Goals as goal
 

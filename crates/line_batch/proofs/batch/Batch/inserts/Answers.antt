@@ -1,10 +1,10 @@
 use Rattle.std.proofs.Common.{◌≤◌, [], subst, sym}
-use Rattle.graph_store.specs.State.{most_triples}
+use Rattle.graph_store.specs.StoreState.{most_triples}
 use Rattle.line_batch.specs.Batches.{AreStaged}
 use Rattle.line_batch.proofs.BatchLemmas.{none_staged}
 use Rattle.line_batch.proofs.batch.Batch.inserts.Goals as goal
 
 pub returns : goal.returns
 returns g c =
-    let none = subst (AreStaged c.args.store.now [] c.args.store.now) (sym c.new.ensures) (none_staged c.args.store.now c.requires (subst (λ n. n ≤ most_triples) c.triples.ensures.value c.triples.ensures.few)) in
+    let none = subst (AreStaged c.args.store.now [] c.args.store.now) (sym c.new.ensures) (none_staged c.args.store.now c.requires c.stands.ensures.few) in
     record { ready = none.fits; none = (none, tt) }

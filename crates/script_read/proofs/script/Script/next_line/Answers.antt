@@ -1,7 +1,7 @@
 use Rattle.std.proofs.Common.{rules, arith, ◌≡◌, ◌∙◌, sym, ap, false, length}
 use Rattle.std.specs.Prelude.{[], Ok}
 use Rattle.tn_io.specs.CutterState.{whole_to_come}
-use Rattle.script_read.specs.ScriptState.{State, not_yet}
+use Rattle.script_read.specs.ScriptState.{ScriptState, not_yet}
 use Rattle.script_read.proofs.ScriptLemmas.{takes_both, takes_same, next_is, fails, too_long, last_is}
 use Rattle.script_read.proofs.script.Script.next_line.Goals as goal
 
@@ -19,8 +19,8 @@ returns-in_default-refill-clause-next g c =
     let same = c.in_default-refill.ensures.err in
     let takes = takes_both _ _ _ _ _ _ c.reads.invariant.takes (takes_both _ _ _ _ _ _ (takes_same _ _ _ c.in_default.ensures.still) c.refill.ensures.takes) in
     fails _ _ _ _ takes (sym (ap (λ s. s.ended) c.self.view_is) ∙ c.if-self.false)
-    (ap (λ (s : State). s.ahead) same ∙ c.cut.ensures.all c.in_default.is) (ap (λ (s : State). s.over) same ∙ sym (ap (λ s. s.over) c.self-in-reads.view_is) ∙ c.if-self-2.false)
-    (ap (λ (s : State). whole_to_come s.cutter []) same ∙ c.cut.ensures.none_left)
+    (ap (λ (s : ScriptState). s.ahead) same ∙ c.cut.ensures.all c.in_default.is) (ap (λ (s : ScriptState). s.over) same ∙ sym (ap (λ s. s.over) c.self-in-reads.view_is) ∙ c.if-self-2.false)
+    (ap (λ (s : ScriptState). whole_to_come s.cutter []) same ∙ c.cut.ensures.none_left)
 
 pub returns-then-not-more-clause-next : goal.returns-then-not-more-clause-next
 returns-then-not-more-clause-next g c =
@@ -28,7 +28,7 @@ returns-then-not-more-clause-next g c =
     let same = (c.refill.ensures.none none).0 in
     let takes = takes_both _ _ _ _ _ _ c.reads.invariant.takes (takes_both _ _ _ _ _ _ (takes_same _ _ _ c.in_default.ensures.still) c.refill.ensures.takes) in
     last_is _ _ _ _ takes (sym (ap (λ s. s.ended) c.self.view_is) ∙ c.if-self.false) _
-    (ap (λ (s : State). s.ahead) same ∙ c.cut.ensures.all c.in_default.is) (ap (λ (s : State). s.over) same ∙ sym (ap (λ s. s.over) c.self-in-reads.view_is) ∙ c.if-self-2.false)
+    (ap (λ (s : ScriptState). s.ahead) same ∙ c.cut.ensures.all c.in_default.is) (ap (λ (s : ScriptState). s.over) same ∙ sym (ap (λ s. s.over) c.self-in-reads.view_is) ∙ c.if-self-2.false)
     (c.refill.ensures.none none).1 c.finish.ensures.ahead c.finish.ensures.left c.finish.ensures.ended c.finish.result c.finish.ensures.last
 
 pub reads-preserved : goal.reads-preserved

@@ -1,5 +1,5 @@
 use Rattle.std.proofs.lemmas.Option.{slice_get_within}
-use Rattle.term_dict.specs.declared.place.Place.TheVariants.{Vacant}
+use Rattle.term_dict.specs.declared.term_slot.TermSlot.TheVariants.{Vacant}
 use Rattle.term_dict.proofs.PlaceLemmas.{place_at, IsLinked-vacate, Writes-set}
 use Rattle.term_dict.proofs.places.Places.take_out.Goals as goal
 

@@ -1,7 +1,7 @@
 use Rattle.std.proofs.Common.{subst}
 use Rattle.tentris_core.specs.Places.{IsAt}
 use Rattle.tentris_core.proofs.BlockLemmas.{inside_at, asks_at}
-use Rattle.tentris_core.proofs.block.Place.abandon.Goals as goal
+use Rattle.tentris_core.proofs.block.Progress.abandon.Goals as goal
 
 pub returns-in-Inside : goal.returns-in-Inside
 returns-in-Inside g c = λ p s at.

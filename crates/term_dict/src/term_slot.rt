@@ -11,7 +11,7 @@ use tn_io::Text;
 use trie_depth::Memory;
 
 #[derive(Drop)]
-pub enum Place {
+pub enum TermSlot {
     /// No term; the next place without one, or the number of places.
     Vacant(usize),
     Iri(Text),
@@ -24,27 +24,27 @@ pub enum Place {
     Tagged(u32, String),
 }
 
-const _: () = prove!(size_of::<Place>() == 32);
+const _: () = prove!(size_of::<TermSlot>() == 32);
 
-impl Place {
+impl TermSlot {
     /// A place that holds the term.
-    pub(crate) fn of(alloc: Global, term: TermRef<'_>) -> Result<Place, Memory>
+    pub(crate) fn of(alloc: Global, term: TermRef<'_>) -> Result<TermSlot, Memory>
         ensures term { IfOk result (λ p. term_in p ≡ Some (lent_term term.entry)) }
         ensures parted { IfOk result IsParted }
     {
         match term {
-            TermRef::Iri(text) => Ok(Place::Iri(Text::of(alloc, text)?)),
-            TermRef::Blank(label) => Ok(Place::Blank(Text::of(alloc, label)?)),
+            TermRef::Iri(text) => Ok(TermSlot::Iri(Text::of(alloc, text)?)),
+            TermRef::Blank(label) => Ok(TermSlot::Blank(Text::of(alloc, label)?)),
             TermRef::Literal(form, KindRef::Typed(datatype)) => {
                 if datatype == XSD_STRING {
-                    return Ok(Place::Plain(Text::of(alloc, form)?));
+                    return Ok(TermSlot::Plain(Text::of(alloc, form)?));
                 }
                 let (parting, text) = joined(alloc, form, datatype)?;
-                Ok(Place::Typed(parting, text))
+                Ok(TermSlot::Typed(parting, text))
             }
             TermRef::Literal(form, KindRef::Tagged(tag)) => {
                 let (parting, text) = joined(alloc, form, tag)?;
-                Ok(Place::Tagged(parting, text))
+                Ok(TermSlot::Tagged(parting, text))
             }
         }
     }
@@ -55,15 +55,15 @@ impl Place {
         ensures { MatchOption result (term_in self.now ≡ None) (λ t. term_in self.now ≡ Some (lent_term t)) }
     {
         match self {
-            Place::Vacant(_) => None,
-            Place::Iri(text) => Some(TermRef::Iri(text.as_str())),
-            Place::Blank(label) => Some(TermRef::Blank(label.as_str())),
-            Place::Plain(form) => Some(TermRef::Literal(form.as_str(), KindRef::Typed(XSD_STRING))),
-            Place::Typed(parting, text) => {
+            TermSlot::Vacant(_) => None,
+            TermSlot::Iri(text) => Some(TermRef::Iri(text.as_str())),
+            TermSlot::Blank(label) => Some(TermRef::Blank(label.as_str())),
+            TermSlot::Plain(form) => Some(TermRef::Literal(form.as_str(), KindRef::Typed(XSD_STRING))),
+            TermSlot::Typed(parting, text) => {
                 let (form, datatype) = parted(*parting, text);
                 Some(TermRef::Literal(form, KindRef::Typed(datatype)))
             }
-            Place::Tagged(parting, text) => {
+            TermSlot::Tagged(parting, text) => {
                 let (form, tag) = parted(*parting, text);
                 Some(TermRef::Literal(form, KindRef::Tagged(tag)))
             }

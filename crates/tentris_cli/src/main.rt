@@ -16,7 +16,7 @@ mod tests;
 
 use disk::Disk;
 use graph_store::{NoWatch, Store};
-use standard::{Input, Output};
+use standard::Counted;
 use std::alloc::{AllocError, Global};
 use std::env::Args;
 use std::process::ExitCode;
@@ -81,8 +81,8 @@ fn carry_out(rt: &HostRuntime, words: &[String]) -> Status
     };
     let mut store = Store::<SplitMix>::seeded(rt.alloc(), seed(rt));
     let mut files = Disk::new(rt);
-    let mut source = Input::new(rt.stdin());
-    let mut sink = Output::new(rt.stdout());
+    let mut source = Counted::new(rt.stdin());
+    let mut sink = Counted::new(rt.stdout());
     let status = run(
         rt.alloc(),
         &words,

@@ -4,33 +4,33 @@ ghost use Rattle.std.specs.Prelude.{◌≡◌};
 use std::io::{Read, Write};
 use tn_io::{Failed, Sink, Source};
 
-/// A reader as a source.
+/// A reader as a source, or a writer as a sink. Each piece that is written is passed on at once.
 #[derive(Drop)]
-pub struct Input<R> {
-    reader: R,
+pub struct Counted<S> {
+    stream: S,
     faults: u64,
 }
 
-impl<R: Read> Input<R> {
-    ghost use Rattle.tentris_cli.specs.Standard.{input_faults};
+impl<S> Counted<S> {
+    ghost use Rattle.tentris_cli.specs.Standard.{stream_faults};
 
-    pub fn new(reader: R) -> Input<R>
-        ensures { input_faults result ≡ 0 }
+    pub fn new(stream: S) -> Counted<S>
+        ensures { stream_faults result ≡ 0 }
     {
-        Input { reader, faults: 0 }
+        Counted { stream, faults: 0 }
     }
 }
 
-impl<R: Read> Source for Input<R> {
+impl<R: Read> Source for Counted<R> {
     ghost use Rattle.std.specs.Prelude.{None};
-    ghost use Rattle.tentris_cli.specs.Standard.{input_faults};
+    ghost use Rattle.tentris_cli.specs.Standard.{stream_faults};
 
     ghost left = { λ _. None };
 
-    ghost faults = { input_faults };
+    ghost faults = { stream_faults };
 
     fn read(&mut self, buf: &mut [u8]) -> Result<usize, Failed> {
-        match self.reader.read(buf) {
+        match self.stream.read(buf) {
             Ok(count) => Ok(count),
             Err(_) => {
                 self.faults = self.faults.saturating_add(1);
@@ -40,37 +40,20 @@ impl<R: Read> Source for Input<R> {
     }
 }
 
-/// A writer as a sink. Each piece is passed on at once.
-#[derive(Drop)]
-pub struct Output<W> {
-    writer: W,
-    faults: u64,
-}
-
-impl<W: Write> Output<W> {
-    ghost use Rattle.tentris_cli.specs.Standard.{output_faults};
-
-    pub fn new(writer: W) -> Output<W>
-        ensures { output_faults result ≡ 0 }
-    {
-        Output { writer, faults: 0 }
-    }
-}
-
-impl<W: Write> Sink for Output<W> {
+impl<W: Write> Sink for Counted<W> {
     ghost use Rattle.std.specs.Prelude.{None};
-    ghost use Rattle.tentris_cli.specs.Standard.{output_faults};
+    ghost use Rattle.tentris_cli.specs.Standard.{stream_faults};
 
     ghost written = { λ _. None };
 
-    ghost faults = { output_faults };
+    ghost faults = { stream_faults };
 
     fn write(&mut self, piece: &[u8]) -> Result<usize, Failed> {
-        let Ok(count) = self.writer.write(piece) else {
+        let Ok(count) = self.stream.write(piece) else {
             self.faults = self.faults.saturating_add(1);
             return Err(Failed);
         };
-        let Ok(()) = self.writer.flush() else {
+        let Ok(()) = self.stream.flush() else {
             self.faults = self.faults.saturating_add(1);
             return Err(Failed);
         };

@@ -1,6 +1,6 @@
 //! Reads of the file system, of a reader and writes to a writer, each with its faults.
 use crate::disk::Disk;
-use crate::standard::{Input, Output};
+use crate::standard::Counted;
 use std::fs;
 use std::io::{self, Read, Write};
 use std::test::Fail;
@@ -55,7 +55,7 @@ impl Read for FailsFirst {
 
 #[test]
 fn reads_of_a_reader(rt: HostRuntime) {
-    let mut input = Input::new(FailsFirst {
+    let mut input = Counted::new(FailsFirst {
         bytes: b"INSERT",
         failed: false,
     });
@@ -96,7 +96,7 @@ fn writes_to_a_writer(rt: HostRuntime) {
         got: Vec::new(rt.alloc()),
         writes: 0,
     };
-    let mut output = Output::new(&mut writer);
+    let mut output = Counted::new(&mut writer);
     let written = [
         output.write(b"ok dump 0\n"),
         output.write(b"ump 0\n"),

@@ -1,5 +1,5 @@
 -- The rows of each depth, and the set that each row stands for.
-use Rattle.std.specs.Prelude.{ℕ, zero, suc, Option, None, Some, IsSome, option_map}
+use Rattle.std.specs.Prelude.{◌+◌, ◌-◌, ℕ, zero, suc, Option, None, Some, IsSome, option_map}
 use Rattle.std.specs.Ordering.{nat_cmp}
 use Rattle.std.specs.FinMap as map
 use Rattle.hypertrie_model.specs.IdSets.{IdSet}
@@ -37,6 +37,16 @@ put_table t (suc (suc (suc (suc d)))) table = t
 -- the tables with this row of a depth under a number
 abbrev pub put_row : Tables → ℕ → ℕ → Row Node → Tables
 put_row t depth number row = put_table t depth (with_row (table_at t depth) number row)
+
+-- the row of a node that comes in, and a row with one hold more, and with one less
+abbrev pub new_row : Node → ℕ → Row Node
+new_row node hash = record { node = node; count = 1; hash = hash }
+
+abbrev pub one_more : Row Node → Row Node
+one_more r = record r { count = r.count + 1 }
+
+abbrev pub one_less : Row Node → Row Node
+one_less r = record r { count = r.count - 1 }
 
 abbrev pub rows_at : Tables → ℕ → Rows
 rows_at t d = (table_at t d).rows

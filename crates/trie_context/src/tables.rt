@@ -1,7 +1,7 @@
 //! The tables of the three depths, and their calls by the number of the depth.
 ghost use Rattle.std.specs.Prelude.{◌≡◌, ◌+◌, ◌-◌, ◌<◌, ◌≤◌, ◌^◌, None, IsSome, IsNone, IfSome, IfOk, OnErr, IfErr};
 ghost use Rattle.node_table.specs.Table.{with_row, without_row, reserved_at, HasNoNode, HasNoNodeUnder};
-ghost use Rattle.trie_context.specs.Rows.{no_tables, table_at, put_table, put_row, row_of};
+ghost use Rattle.trie_context.specs.Rows.{no_tables, table_at, put_table, put_row, row_of, new_row, one_more, one_less};
 ghost use Rattle.trie_context.specs.Opened.{IsReserved, opened_at, closed_at, discarded_at};
 
 use node_table::{Spot, Table};
@@ -69,7 +69,7 @@ impl Tables {
         requires high { depth ≤ 3 }
         requires new { HasNoNode (table_at self.old depth) node }
         ensures fresh { IfOk result (λ r. row_of self.old depth r ≡ None) }
-        ensures added { IfOk result (λ r. self.new ≡ put_row self.old depth r (record { node = node; count = 1; hash = hash })) }
+        ensures added { IfOk result (λ r. self.new ≡ put_row self.old depth r (new_row node hash)) }
         ensures kept { OnErr result (self.new ≡ self.old) }
         ensures back { IfErr result (λ e. e.0 ≡ node) }
     {
@@ -81,7 +81,7 @@ impl Tables {
         requires high { depth ≤ 3 }
         requires there { IsSome (row_of self.old depth row) }
         requires room { IfSome (row_of self.old depth row) (λ r. r.count < 2 ^ 100) }
-        ensures { IfSome (row_of self.old depth row) (λ r. self.new ≡ put_row self.old depth row (record r { count = r.count + 1 })) }
+        ensures { IfSome (row_of self.old depth row) (λ r. self.new ≡ put_row self.old depth row (one_more r)) }
     {
         at_depth!(self, depth, bump(row))
     }
@@ -91,7 +91,7 @@ impl Tables {
         requires high { depth ≤ 3 }
         requires there { IsSome (row_of self.old depth row) }
         requires more { IfSome (row_of self.old depth row) (λ r. 1 < r.count) }
-        ensures { IfSome (row_of self.old depth row) (λ r. self.new ≡ put_row self.old depth row (record r { count = r.count - 1 })) }
+        ensures { IfSome (row_of self.old depth row) (λ r. self.new ≡ put_row self.old depth row (one_less r)) }
     {
         at_depth!(self, depth, lower(row))
     }

@@ -1,8 +1,6 @@
 //! A graph changed, with what was replaced kept.
-ghost use Rattle.std.specs.Prelude.{◌+◌, ◌*◌, ◌≤◌, true, false, IfOk, OnErr, length};
+ghost use Rattle.std.specs.Prelude.{◌+◌, ◌*◌, ◌≤◌, IfOk, OnErr, length};
 ghost use Rattle.trie_change.specs.declared.change.Change.{Change};
-ghost use Rattle.trie_change.specs.After.{graph_after, with_batch, without_batch};
-ghost use Rattle.trie_change.specs.Changes.{grows};
 ghost use Rattle.trie_update.specs.Changed.{MayChangeGraph, IsOpen, IsAsBefore};
 ghost use Rattle.trie_update.specs.Retained.{ChangeRetains};
 
@@ -26,8 +24,8 @@ pub fn change_open<M: Mix, W: Ledger, V: Ledger>(
     interns: &mut Steps<W>,
     retains: &mut Steps<V>,
 ) -> Result<Undo, Memory>
-    requires { MayChangeGraph (grows change) context.old root.old batch.now }
-    ensures open { IfOk result (IsOpen M.mixed context.old context.new root.old root.new (graph_after change context.old root.old batch.now)) }
+    requires { MayChangeGraph change context.old root.old batch.now }
+    ensures open { IfOk result (IsOpen change M.mixed context.old context.new root.old root.new batch.now) }
     ensures kept { OnErr result (IsAsBefore context.old context.new root.old root.new) }
     ensures ticks { interns.new ≤ interns.old + (9 * length batch.now + 10) }
     ensures retained { ChangeRetains change context.old root.old batch.now retains.old retains.new }
@@ -57,8 +55,8 @@ pub fn grow_open<M: Mix, W: Ledger, V: Ledger>(
     interns: &mut Steps<W>,
     retains: &mut Steps<V>,
 ) -> Result<Undo, Memory>
-    requires { MayChangeGraph true context.old root.old batch.now }
-    ensures open { IfOk result (IsOpen M.mixed context.old context.new root.old root.new (with_batch context.old root.old batch.now)) }
+    requires { MayChangeGraph Change.Grow context.old root.old batch.now }
+    ensures open { IfOk result (IsOpen Change.Grow M.mixed context.old context.new root.old root.new batch.now) }
     ensures kept { OnErr result (IsAsBefore context.old context.new root.old root.new) }
     ensures ticks { interns.new ≤ interns.old + (9 * length batch.now + 10) }
     ensures retained { ChangeRetains Change.Grow context.old root.old batch.now retains.old retains.new }
@@ -75,8 +73,8 @@ pub fn shrink_open<M: Mix, W: Ledger, V: Ledger>(
     interns: &mut Steps<W>,
     retains: &mut Steps<V>,
 ) -> Result<Undo, Memory>
-    requires { MayChangeGraph false context.old root.old batch.now }
-    ensures open { IfOk result (IsOpen M.mixed context.old context.new root.old root.new (without_batch context.old root.old batch.now)) }
+    requires { MayChangeGraph Change.Shrink context.old root.old batch.now }
+    ensures open { IfOk result (IsOpen Change.Shrink M.mixed context.old context.new root.old root.new batch.now) }
     ensures kept { OnErr result (IsAsBefore context.old context.new root.old root.new) }
     ensures ticks { interns.new ≤ interns.old + (9 * length batch.now + 10) }
     ensures retained { ChangeRetains Change.Shrink context.old root.old batch.now retains.old retains.new }

@@ -7,7 +7,6 @@ ghost use Rattle.trie_context.specs.Roots.{root_set, root_hold, IsHeld};
 ghost use Rattle.trie_context.specs.Rows.{row_of, set_of};
 ghost use Rattle.change_log.specs.Log.{edge_hold, Grows};
 ghost use Rattle.trie_change.specs.After.{graph_after};
-ghost use Rattle.trie_change.specs.Changes.{grows};
 ghost use Rattle.trie_update.specs.Changed.{MayChangeGraph};
 ghost use Rattle.trie_update.specs.Opened.{ReplacesRoot};
 ghost use Rattle.trie_update.specs.Retained.{ChangeRetains, IsSmall};
@@ -62,7 +61,7 @@ pub fn replace_root<M: Mix, W: Ledger, V: Ledger>(
     interns: &mut Steps<W>,
     retains: &mut Steps<V>,
 ) -> Result<Root, Memory>
-    requires { MayChangeGraph (grows change) context.old root.now batch.now }
+    requires { MayChangeGraph change context.old root.now batch.now }
     ensures set { IfOk result (λ new. root_set context.new new ≡ graph_after change context.old root.now batch.now) }
     ensures logged { IfOk result (ReplacesRoot M.mixed context.old context.new log.old log.new root.now) }
     ensures grew { OnErr result (Grows M.mixed context.old context.new log.old.steps log.new.steps) }

@@ -1,9 +1,7 @@
 //! A graph grown and shrunk by a batch.
-ghost use Rattle.std.specs.Prelude.{◌+◌, ◌*◌, ◌≤◌, true, false, OnOk, OnErr, length};
+ghost use Rattle.std.specs.Prelude.{◌+◌, ◌*◌, ◌≤◌, OnOk, OnErr, length};
 ghost use Rattle.trie_context.specs.Roots.{IsHeld};
 ghost use Rattle.trie_change.specs.declared.change.Change.{Change};
-ghost use Rattle.trie_change.specs.After.{graph_after, with_batch, without_batch};
-ghost use Rattle.trie_change.specs.Changes.{grows};
 ghost use Rattle.trie_update.specs.Changed.{MayChangeGraph, IsChanged, IsAsBefore};
 ghost use Rattle.trie_update.specs.Retained.{ChangeRetains};
 
@@ -25,9 +23,9 @@ fn update<M: Mix, W: Ledger, V: Ledger>(
     interns: &mut Steps<W>,
     retains: &mut Steps<V>,
 ) -> Result<(), Memory>
-    requires { MayChangeGraph (grows change) context.old root.old batch.now }
+    requires { MayChangeGraph change context.old root.old batch.now }
     ensures held { IsHeld context.new root.new }
-    ensures changed { OnOk result (IsChanged M.mixed context.old context.new root.old root.new (graph_after change context.old root.old batch.now)) }
+    ensures changed { OnOk result (IsChanged change M.mixed context.old context.new root.old root.new batch.now) }
     ensures kept { OnErr result (IsAsBefore context.old context.new root.old root.new) }
     ensures ticks { interns.new ≤ interns.old + (9 * length batch.now + 10) }
     ensures retained { ChangeRetains change context.old root.old batch.now retains.old retains.new }
@@ -47,9 +45,9 @@ pub fn grow<M: Mix, W: Ledger, V: Ledger>(
     interns: &mut Steps<W>,
     retains: &mut Steps<V>,
 ) -> Result<(), Memory>
-    requires { MayChangeGraph true context.old root.old batch.now }
+    requires { MayChangeGraph Change.Grow context.old root.old batch.now }
     ensures held { IsHeld context.new root.new }
-    ensures changed { OnOk result (IsChanged M.mixed context.old context.new root.old root.new (with_batch context.old root.old batch.now)) }
+    ensures changed { OnOk result (IsChanged Change.Grow M.mixed context.old context.new root.old root.new batch.now) }
     ensures kept { OnErr result (IsAsBefore context.old context.new root.old root.new) }
     ensures ticks { interns.new ≤ interns.old + (9 * length batch.now + 10) }
     ensures retained { ChangeRetains Change.Grow context.old root.old batch.now retains.old retains.new }
@@ -66,9 +64,9 @@ pub fn shrink<M: Mix, W: Ledger, V: Ledger>(
     interns: &mut Steps<W>,
     retains: &mut Steps<V>,
 ) -> Result<(), Memory>
-    requires { MayChangeGraph false context.old root.old batch.now }
+    requires { MayChangeGraph Change.Shrink context.old root.old batch.now }
     ensures held { IsHeld context.new root.new }
-    ensures changed { OnOk result (IsChanged M.mixed context.old context.new root.old root.new (without_batch context.old root.old batch.now)) }
+    ensures changed { OnOk result (IsChanged Change.Shrink M.mixed context.old context.new root.old root.new batch.now) }
     ensures kept { OnErr result (IsAsBefore context.old context.new root.old root.new) }
     ensures ticks { interns.new ≤ interns.old + (9 * length batch.now + 10) }
     ensures retained { ChangeRetains Change.Shrink context.old root.old batch.now retains.old retains.new }

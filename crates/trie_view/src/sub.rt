@@ -316,7 +316,7 @@ fn ids_of(triple: Trip)
     ensures { IsIdTuple (trip_tuple triple) }
 {}
 
-/// So is each key of a node, as its maps tell when they are read.
+/// So is each key of a node.
 fn keys_are_ids(node: &Node)
     ensures { (i k : ℕ) → 2 ^ 32 ≤ k → edge_at node.now i k ≡ None }
 {
@@ -327,8 +327,8 @@ fn keys_are_ids(node: &Node)
         ..
     } = node
     {
-        first.seek(Id(0));
-        second.seek(Id(0));
-        third.seek(Id(0));
+        first.keys_are_ids();
+        second.keys_are_ids();
+        third.keys_are_ids();
     }
 }

@@ -24,6 +24,7 @@ use Rattle.trie_context.specs.RowLaws.{empty_at}
 use Rattle.trie_context.specs.Roots.{root_set, IsHeld}
 use Rattle.trie_change.specs.Batches.{set_of_entries, IsOnce}
 use Rattle.trie_change.specs.BatchLaws.{order_once}
+use Rattle.trie_change.specs.declared.change.Change.TheVariants.{Grow}
 use Rattle.trie_update.specs.Changed.{MayChangeGraph}
 
 -- where no row is, no count is
@@ -38,14 +39,14 @@ module _ (t : Tables) (root : Root) (A : IdSet) (none : root ≡ Empty) where
   all_put = ap (λ r. set.union (root_set t r) A) none ∙ same_sets total exact _ _ (λ u. has-after_in total exact (empty nat_cmp) A u ∙ ap (λ b. b || has A u) (set.contains-empty (slice_cmp nat_cmp) u))
 
 -- a batch may be put into empty tables
-pub may_grow_empty : (t : Tables) (root : Root) (batch : List Trip) → t ≡ no_tables → root ≡ Empty → IsOnce trip_tuple batch → length batch ≤ 1000 → MayChangeGraph true t root batch
+pub may_grow_empty : (t : Tables) (root : Root) (batch : List Trip) → t ≡ no_tables → root ≡ Empty → IsOnce trip_tuple batch → length batch ≤ 1000 → MayChangeGraph Grow t root batch
 may_grow_empty t root batch tables none once few =
     let B = set_of_entries trip_tuple batch in
     let put = ap set.len (all_put t root B none) in
     record {
       held = subst (IsHeld t) (sym none) tt;
       once = once;
-      change = all_new t root B none;
+      fits = all_new t root B none;
       counts = λ d r. omega (arith, counts_none t tables d r);
       size = omega (arith, once, few, put);
     }

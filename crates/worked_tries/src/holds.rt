@@ -1,9 +1,7 @@
 //! Two sets of pairs that share one key set, with one hash for all nodes, a map of edges retained and given up, a row
 //! found and not found, and one that is not opened.
-ghost use Rattle.std.specs.Prelude.{◌≡◌, ◌<◌, None, Some, IfOk};
-ghost use Rattle.std.specs.FinMap as map;
-ghost use Rattle.edge_map.specs.declared.edge.Edge.{Edge};
-ghost use Rattle.trie_node.specs.declared.node.Node.{Node};
+ghost use Rattle.std.specs.Prelude.{◌≡◌, ◌<◌, IfOk};
+ghost use Rattle.worked_tries.specs.TwoKeys.{two_keys_node, pairs_node};
 
 use edge_map::{Edge, EdgeMap};
 use std::alloc::Global;
@@ -16,7 +14,7 @@ use trie_node::Node;
 /// The set of two keys.
 pub(crate) fn two_keys(alloc: Global, low: Id, high: Id) -> Result<Node, Memory>
     requires { low.0 < high.0 }
-    ensures { IfOk result (λ n. n ≡ Node.Full 2 0 (map.insert (map.insert map.empty high.0 (Edge.Key high)) low.0 (Edge.Key low)) map.empty map.empty) }
+    ensures { IfOk result (λ n. n ≡ two_keys_node low high) }
 {
     Ok(Node::Full {
         size: 2,
@@ -33,7 +31,7 @@ pub(crate) fn two_keys(alloc: Global, low: Id, high: Id) -> Result<Node, Memory>
 /// One key before each of two keys, whose set is behind `keys`.
 pub(crate) fn pairs(alloc: Global, first: Id, keys: Edge, low: Id, high: Id) -> Result<Node, Memory>
     requires { low.0 < high.0 }
-    ensures { IfOk result (λ n. n ≡ Node.Full 2 0 (map.insert map.empty first.0 keys) (map.insert (map.insert map.empty high.0 (Edge.Key first)) low.0 (Edge.Key first)) map.empty) }
+    ensures { IfOk result (λ n. n ≡ pairs_node first keys low high) }
 {
     Ok(Node::Full {
         size: 2,
@@ -126,66 +124,34 @@ fn not_opened<W: Ledger>(alloc: Global, steps: &mut Steps<W>) -> Result<(u128, u
     }
 }
 
-fn counted_not_opened<W: Ledger>(alloc: Global, blank: Blank) -> Result<(u128, u64), Memory>
+/// What the four functions above tell, in their order.
+type Told = (
+    (u128, u64, u64),
+    (u128, u64),
+    (bool, u128, bool),
+    (u128, u64),
+);
+
+fn counted<W: Ledger>(alloc: Global, blank: Blank) -> Result<Told, Memory>
     requires name { blank.name ≡ W.name }
     requires parts { blank.parts ≡ W.parts }
     requires whole { 0 < W.parts }
 {
     let mut steps = Steps::<W>::new(blank);
-    not_opened(alloc, &mut steps)
-}
-
-fn counted_found<W: Ledger>(alloc: Global, blank: Blank) -> Result<(bool, u128, bool), Memory>
-    requires name { blank.name ≡ W.name }
-    requires parts { blank.parts ≡ W.parts }
-    requires whole { 0 < W.parts }
-{
-    let mut steps = Steps::<W>::new(blank);
-    found(alloc, &mut steps)
-}
-
-fn counted_borrowed<W: Ledger>(alloc: Global, blank: Blank) -> Result<(u128, u64), Memory>
-    requires name { blank.name ≡ W.name }
-    requires parts { blank.parts ≡ W.parts }
-    requires whole { 0 < W.parts }
-{
-    let mut steps = Steps::<W>::new(blank);
-    borrowed(alloc, &mut steps)
-}
-
-fn counted<W: Ledger>(alloc: Global, blank: Blank) -> Result<(u128, u64, u64), Memory>
-    requires name { blank.name ≡ W.name }
-    requires parts { blank.parts ≡ W.parts }
-    requires whole { 0 < W.parts }
-{
-    let mut steps = Steps::<W>::new(blank);
-    shared(alloc, &mut steps)
+    Ok((
+        shared(alloc, &mut steps)?,
+        borrowed(alloc, &mut steps)?,
+        found(alloc, &mut steps)?,
+        not_opened(alloc, &mut steps)?,
+    ))
 }
 
 #[test]
-fn shares_equal_key_sets(rt: HostRuntime) -> Result<(), Memory> {
-    let (count, one, two) = counted::<Brand>(rt.alloc(), Blank::new(1))?;
-    assert_eq!(rt; (count, one, two), (2, 0, 0));
-    Ok(())
-}
-
-#[test]
-fn retains_and_releases_a_map(rt: HostRuntime) -> Result<(), Memory> {
-    let (count, rows) = counted_borrowed::<Brand>(rt.alloc(), Blank::new(1))?;
-    assert_eq!(rt; (count, rows), (2, 0));
-    Ok(())
-}
-
-#[test]
-fn finds_a_row_while_it_is_held(rt: HostRuntime) -> Result<(), Memory> {
-    let (held, count, given_up) = counted_found::<Brand>(rt.alloc(), Blank::new(1))?;
-    assert_eq!(rt; (held, count, given_up), (true, 2, false));
-    Ok(())
-}
-
-#[test]
-fn keeps_a_shared_row_closed(rt: HostRuntime) -> Result<(), Memory> {
-    let (count, rows) = counted_not_opened::<Brand>(rt.alloc(), Blank::new(1))?;
-    assert_eq!(rt; (count, rows), (2, 0));
+fn shares_finds_and_keeps_a_row(rt: HostRuntime) -> Result<(), Memory> {
+    let (shared, borrowed, found, not_opened) = counted::<Brand>(rt.alloc(), Blank::new(1))?;
+    assert_eq!(rt; shared, (2, 0, 0));
+    assert_eq!(rt; borrowed, (2, 0));
+    assert_eq!(rt; found, (true, 2, false));
+    assert_eq!(rt; not_opened, (2, 0));
     Ok(())
 }

@@ -22,7 +22,7 @@ grow-requires g c =
     record {
       held = root_held t c.args.root.now c.requires.only;
       once = subst (IsOnce trip_tuple) (sym c.deref.ensures.value) c.in_ok-batch.ensures.once;
-      change = subst (IsChange true H) (sym put) c.requires.new;
+      fits = subst (IsChange true H) (sym put) c.requires.new;
       counts = counts_few t H (root_shape g.M.Mix.mixed t c.is_kept.ensures c.args.root.now c.requires.only) (omega (arith, c.requires.few));
       size = omega (arith, c.requires.few, most, size);
     }

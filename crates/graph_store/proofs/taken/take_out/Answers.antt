@@ -20,7 +20,7 @@ shrink-requires g c =
     record {
       held = root_held t c.args.root.now c.requires.only;
       once = c.requires.once;
-      change = c.requires.there;
+      fits = c.requires.there;
       counts = counts_few t H (root_shape g.M.Mix.mixed t c.is_kept.ensures c.args.root.now c.requires.only) c.requires.few;
       size = omega (arith, within, c.requires.few);
     }

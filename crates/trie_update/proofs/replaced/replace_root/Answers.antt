@@ -28,7 +28,7 @@ reopen_triples-requires-clause-batch g c =
     let row = c.in-Some.row in
     let B = set_of_entries trip_tuple c.args.batch.now in
     let is = c.in-Some.ensures.there in
-    let may = subst (λ r. IsChange (grows c.args.change) (root_set t r) B) is c.requires.change in
+    let may = subst (λ r. IsChange (grows c.args.change) (root_set t r) B) is c.requires.fits in
     let parts = len-union_parts total exact (set_of t 3 row) B in
     record {
       there = held_there t 3 row (subst (IsHeld t) is c.requires.held);
@@ -41,7 +41,7 @@ pub reopen_triples-requires-clause-left : goal.reopen_triples-requires-clause-le
 reopen_triples-requires-clause-left g c =
     let t = c.args.context.now in
     let B = set_of_entries trip_tuple c.args.batch.now in
-    let may = subst (λ r. IsChange (grows c.args.change) (root_set t r) B) c.in-Some.ensures.there c.requires.change in
+    let may = subst (λ r. IsChange (grows c.args.change) (root_set t r) B) c.in-Some.ensures.there c.requires.fits in
     two_left c.args.change (set_of t 3 c.in-Some.row) B may _ c.requires.once (omega (arith, c.in-Some.ensures.large))
 
 pub returns-in-Some-clause-retained : goal.returns-in-Some-clause-retained
@@ -58,8 +58,8 @@ change_graph-requires-clause-size g c = omega (arith, c.requires.size, len-union
 pub change_graph-requires-clause-batch : goal.change_graph-requires-clause-batch
 change_graph-requires-clause-batch g c = omega (arith, c.requires.size, c.requires.once, len-union_parts total exact (root_set c.args.context.now c.args.root.now) (set_of_entries trip_tuple c.args.batch.now))
 
-pub returns-in-None-clause-logged : goal.returns-in-None-clause-logged
-returns-in-None-clause-logged g c =
+pub returns-in_ok-new-in-None-clause-logged : goal.returns-in_ok-new-in-None-clause-logged
+returns-in_ok-new-in-None-clause-logged g c =
     let t = c.args.context.now in
     let u = c.change_graph.new.context in
     let log = c.args.log.now.steps in

@@ -19,7 +19,7 @@ grow-requires g c =
     record {
       held = subst (IsHeld t) (sym c.requires.root) tt;
       once = c.requires.once;
-      change = all_new t c.requires.tables root c.requires.root B;
+      fits = all_new t c.requires.tables root c.requires.root B;
       counts = λ d r. omega (arith, counts_none t c.requires.tables root c.requires.root d r);
       size = omega (arith, c.requires.once, c.requires.few, same);
     }

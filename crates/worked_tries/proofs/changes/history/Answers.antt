@@ -20,7 +20,7 @@ shrink-requires g c =
     record {
       held = c.grow.ensures.held;
       once = c.requires.part;
-      change = part_there H A P all c.requires.within;
+      fits = part_there H A P all c.requires.within;
       counts = λ d r. omega (arith, counts_none c.args.context.now c.requires.tables d r, c.in_ok-grow.ensures.changed.counts d r);
       size = omega (arith, c.requires.all, c.requires.few, size);
     }
@@ -36,7 +36,7 @@ grow-requires-2 g c =
     record {
       held = c.shrink.ensures.held;
       once = c.requires.part;
-      change = part_new H A P rest c.requires.within;
+      fits = part_new H A P rest c.requires.within;
       counts = λ d r. omega (arith, counts_none c.args.context.now c.requires.tables d r, c.in_ok-grow.ensures.changed.counts d r, c.in_ok-shrink.ensures.changed.counts d r);
       size = omega (arith, c.requires.all, c.requires.few, size);
     }
@@ -53,7 +53,7 @@ shrink-requires-2 g c =
     record {
       held = c.grow-2.ensures.held;
       once = c.requires.all;
-      change = part_there H A A again (λ t there. there);
+      fits = part_there H A A again (λ t there. there);
       counts = λ d r. omega (arith, counts_none c.args.context.now c.requires.tables d r, c.in_ok-grow.ensures.changed.counts d r, c.in_ok-shrink.ensures.changed.counts d r, c.in_ok-grow-2.ensures.changed.counts d r);
       size = omega (arith, c.requires.all, c.requires.few, size);
     }

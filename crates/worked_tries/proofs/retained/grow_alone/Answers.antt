@@ -18,7 +18,7 @@ grow-requires g c =
     record {
       held = c.requires.ready.held;
       once = len-single total exact t;
-      change = alone_new G t c.requires.new;
+      fits = alone_new G t c.requires.new;
       counts = c.requires.ready.counts;
       size = omega (arith, c.requires.ready.size, len-grown total exact G (single nat_cmp t) (alone_new G t c.requires.new), len-single total exact t);
     }
@@ -29,5 +29,4 @@ returns-clause-retained g c =
 
 pub returns-clause-grown : goal.returns-clause-grown
 returns-clause-grown g c =
-    has_grown c.args.context.now c.grow.new.context c.args.root.now c.grow.new.root (trip_tuple c.args.triple) g.M.Mix.mixed c.grow.result
-    c.requires.ready.only c.grow.ensures.changed
+    has_grown g.M.Mix.mixed c.args.context.now c.grow.new.context c.args.root.now c.grow.new.root c.args.triple c.grow.result c.requires.ready.only c.grow.ensures.changed

@@ -1,5 +1,5 @@
 //! The chunks of a map. Most maps have one, which lies in the map itself; a longer list is shared by maps with the same chunks.
-ghost use Rattle.std.specs.Prelude.{◌≡◌, ◌≤◌, ◌^◌, [], IfOk, length};
+ghost use Rattle.std.specs.Prelude.{◌≡◌, ◌≤◌, ◌^◌, [], IfSome, IfOk, length};
 ghost use Rattle.std.proofs.Common.{option_to_list};
 ghost use Rattle.edge_map.specs.Chunks.{flat, seek_in, AreSized};
 ghost use Rattle.edge_map.specs.Pages.{paged, AreFull};
@@ -143,6 +143,18 @@ impl ChunkList {
             Listed::Nothing => 0,
             Listed::One(_) => 1,
             Listed::Many(long) => n_chunks(&long.pages),
+        }
+    }
+
+    /// The chunks, if there is at most one.
+    pub fn as_few(&self) -> Option<&[Chunk]>
+        ensures chunks { IfSome result (λ chunks. chunks.now ≡ self.now) }
+        ensures few { IfSome result (λ chunks. length chunks.now ≤ 1) }
+    {
+        match &self.listed {
+            Listed::Nothing => Some(&[]),
+            Listed::One(chunk) => Some(std::slice::from_ref(chunk)),
+            Listed::Many(_) => None,
         }
     }
 

@@ -5,7 +5,7 @@ ghost use Rattle.rdf_model.specs.Texts.{canon, tsv, kind_text};
 ghost use Rattle.rdf_term.specs.Escapes.{form_text, term_text};
 ghost use Rattle.rdf_term.specs.Seen.{lent_kind, lent_term};
 
-use crate::escaped::{Escapes, cut};
+use crate::escaped::{Escapes, all_stay, cut};
 use crate::term::{KindRef, TermRef};
 use std::alloc::Global;
 use tn_io::{Failed, Out, Sink, Text};
@@ -42,8 +42,8 @@ fn put_datatype<K: Sink>(out: &mut Out<'_, K>, datatype: &str) -> Result<(), Fai
     out.put_byte(b'>')
 }
 
-/// Puts a lexical form with its escapes.
-fn put_form<K: Sink>(out: &mut Out<'_, K>, escapes: Escapes, form: &str) -> Result<(), Failed>
+/// Puts a lexical form with its escapes, run by run.
+fn put_runs<K: Sink>(out: &mut Out<'_, K>, escapes: Escapes, form: &str) -> Result<(), Failed>
     ensures same_sink { out.new.sink.ghost_name ≡ out.old.sink.ghost_name }
     ensures put { Puts K.written K.faults out.old out.new result (form_text escapes form.now) }
 {
@@ -57,6 +57,17 @@ fn put_form<K: Sink>(out: &mut Out<'_, K>, escapes: Escapes, form: &str) -> Resu
         out.put(escape.as_bytes())?;
         left = rest;
     }
+}
+
+/// Puts a lexical form with its escapes; where it has none, as it is.
+fn put_form<K: Sink>(out: &mut Out<'_, K>, escapes: Escapes, form: &str) -> Result<(), Failed>
+    ensures same_sink { out.new.sink.ghost_name ≡ out.old.sink.ghost_name }
+    ensures put { Puts K.written K.faults out.old out.new result (form_text escapes form.now) }
+{
+    if all_stay(escapes, form.as_bytes()) {
+        return out.put(form.as_bytes());
+    }
+    put_runs(out, escapes, form)
 }
 
 /// Puts what stands behind the string of a literal.

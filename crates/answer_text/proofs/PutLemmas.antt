@@ -6,7 +6,6 @@ use Rattle.std.specs.List.{flat_map}
 use Rattle.std.proofs.lemmas.Grind.{flat_map-append}
 use Rattle.std.proofs.lemmas.List.{take_more, take-append-drop}
 use Rattle.tn_io.specs.Known.{Begins}
-use Rattle.run_model.specs.Answers.{line_text}
 use Rattle.tn_io.proofs.KnownLemmas.{append_known-append, begins_more}
 
 module _ {X : Type 0} (f : X → List ℕ) where
@@ -29,10 +28,6 @@ module _ {X : Type 0} (f : X → List ℕ) where
       subst (Begins w)
       (append_known-append (append_known a front) piece rest ∙ append_known-append a front (piece ++ rest) ∙ ap (append_known a) (sym (append_assoc front piece rest) ∙ sym (joined_rest xs i d h)))
       (begins_more w (append_known (append_known a front) piece) rest (subst (λ z. Begins w (append_known z piece)) e g))
-
--- a line and its end
-pub line_joined : (x y : List ℕ) → x ≡ y → x ++ 10 ∷ [] ≡ line_text y
-line_joined x y e = ap (λ z. z ++ 10 ∷ []) e
 
 -- a number between two texts
 pub number_joined : (a x n b : List ℕ) → x ≡ n → a ++ (x ++ b) ≡ (a ++ n) ++ b

@@ -55,10 +55,6 @@ first_name first name e = ap (λ z. codes "?" ++ z) (append-nil name) ∙ ap (λ
 pub later_name : (first : Bool) (name : List ℕ) → first ≡ false → codes "\t?" ++ (name ++ []) ≡ parting first ++ (codes "?" ++ name)
 later_name first name e = ap (λ z. codes "\t?" ++ z) (append-nil name) ∙ ap (λ b. parting b ++ (codes "?" ++ name)) (sym e)
 
--- the first of two texts was cut off
-pub front_cut : (w a : Option (List ℕ)) (x p q : List ℕ) → x ≡ p → Begins w (append_known a x) → Begins w (append_known a (p ++ q))
-front_cut w a x p q e h = subst (Begins w) (append_known-append a p q) (begins_more w (append_known a p) q (subst (λ z. Begins w (append_known a z)) e h))
-
 pub name_at : (columns : List plan.Column) (i : ℕ) (column : plan.Column) → slice_get columns i ≡ Some column → slice_get (map (λ (c : Column). codes "?" ++ c.name) (map column_seen columns)) i ≡ Some (codes "?" ++ column.name)
 name_at [] i column e = absurd (let f : ⊥ = cc in f)
 name_at (c ∷ columns) zero column e = ap (λ (d : plan.Column). Some (codes "?" ++ d.name)) (let same : c ≡ column = cc in same)

@@ -13,11 +13,15 @@ use query_plan::{Columns, Query};
 use rdf_term::{TermRef, tsv_to};
 use tn_io::{Failed, Out, Sink};
 
-// What stands before a field of a line.
-fn before(first: bool) -> &'static [u8]
-    ensures { result.now ≡ parting first }
+// Puts what stands before a field of a line.
+fn put_parting<K: Sink>(first: bool, out: &mut Out<'_, K>) -> Result<(), Failed>
+    ensures same_sink { out.new.sink.ghost_name ≡ out.old.sink.ghost_name }
+    ensures put { Puts K.written K.faults out.old out.new result (parting first) }
 {
-    if first { b"" } else { b"\t" }
+    if first {
+        return Ok(());
+    }
+    out.put_byte(b'\t')
 }
 
 // Puts the name of a column behind a question mark.
@@ -62,7 +66,7 @@ pub fn field<K: Sink>(
     ensures same_sink { out.new.sink.ghost_name ≡ out.old.sink.ghost_name }
     ensures put { Puts K.written K.faults out.old out.new result (field_behind first (option_map lent_term t.entry)) }
 {
-    out.put(before(first))?;
+    put_parting(first, out)?;
     match t {
         Some(t) => tsv_to(t, out),
         None => Ok(()),
@@ -74,5 +78,5 @@ pub fn end_row<K: Sink>(out: &mut Out<'_, K>) -> Result<(), Failed>
     ensures same_sink { out.new.sink.ghost_name ≡ out.old.sink.ghost_name }
     ensures put { Puts K.written K.faults out.old out.new result (codes "\n") }
 {
-    put_pieces(out, &[b"\n"])
+    out.put_byte(b'\n')
 }

@@ -1,11 +1,11 @@
 -- A lexical form, cut at its escapes.
 use Rattle.std.proofs.Common.{◌≡◌, ◌∙◌, ◌<◌, ◌+◌, ℕ, suc, true, false, cond, length, get_or, [], ◌∷◌, ◌++◌, take, drop, refl, sym, ap, subst, arith, Option, Some, None}
-use Rattle.std.specs.Prelude.{IsUtf8, IsCharBoundary}
-use Rattle.std.specs.List.{prefix_len}
+use Rattle.std.specs.Prelude.{IsUtf8, IsCharBoundary, ◌&&◌}
+use Rattle.std.specs.List.{list_all, prefix_len}
 use Rattle.std.proofs.lemmas.Bool.Decides.{nat_tests}
 use Rattle.std.proofs.lemmas.Str.{IsUtf8-drop, IsCharBoundary-after_ascii}
 use Rattle.std.proofs.lemmas.List.{append-nil, length-drop, get_or-drop}
-use Rattle.std.proofs.lemmas.List.Sums.{prefix_len-le-length, prefix_len_stops}
+use Rattle.std.proofs.lemmas.List.Sums.{prefix_len-le-length, prefix_len_stops, AllPass-from_list_all}
 use Rattle.rdf_model.specs.Terms.{Text}
 use Rattle.rdf_term.specs.declared.escaped.Escapes.{Escapes}
 use Rattle.rdf_term.specs.declared.escaped.Escapes.TheVariants.{Canon, Tsv}
@@ -21,6 +21,14 @@ plain_byte Tsv b h = tsv b h
   where
     tsv : (b : ℕ) → stays Tsv b ≡ true → escape_by Tsv b ≡ b ∷ []
     tsv b h = grind (arith, nat_tests)
+
+-- a form without escapes is its text
+pub plain_form : (escapes : Escapes) (form : Text) → list_all (stays escapes) form ≡ true → form_text escapes form ≡ form
+plain_form escapes [] h = refl
+plain_form escapes (b ∷ bs) h =
+    let first : stays escapes b ≡ true = AllPass-from_list_all (stays escapes) (b ∷ bs) h 0 0 (omega arith) in
+    let rest : list_all (stays escapes) bs ≡ true = sym (ap (λ x. x && list_all (stays escapes) bs) first) ∙ h in
+    ap (λ (z : Text). z ++ form_text escapes bs) (plain_byte escapes b first) ∙ ap (λ z. b ∷ z) (plain_form escapes bs rest)
 
 stops_small : (escapes : Escapes) (b : ℕ) → stays escapes b ≡ false → b < 128
 stops_small Canon b h = canon b h

@@ -1,11 +1,12 @@
 -- A body, piece by piece.
 use Rattle.std.proofs.Common.{◌≡◌, ◌∙◌, ℕ, suc, ◌+◌, ◌-◌, ◌<◌, ◌≤◌, Bool, true, false, cond, List, [], ◌∷◌, ◌++◌, length, get_or, take, drop, refl, sym, ap, subst, append_assoc, length-append, arith, Option, Some, None}
-use Rattle.std.specs.Prelude.{IsUtf8, encode_utf8, ◌==◌}
-use Rattle.std.specs.List.{prefix_len}
+use Rattle.std.specs.Prelude.{IsUtf8, encode_utf8, ◌==◌, unwrap_or}
+use Rattle.memchr.specs.Find.{IsFirstByte, is_byte2}
+use Rattle.std.specs.List.{list_all, prefix_len}
 use mathlib.Core.Bool.{true≢false}
 use Rattle.std.proofs.lemmas.Bool.Decides.{nat_tests}
 use Rattle.std.proofs.lemmas.List.{append-nil, length-take, length-drop, drop-drop, take-take, get_or-take}
-use Rattle.std.proofs.lemmas.List.Sums.{prefix_len-le-length, prefix_len_stops}
+use Rattle.std.proofs.lemmas.List.Sums.{AllPass-from_list_all, prefix_len_is, prefix_len-le-length, prefix_len_stops}
 use Rattle.std.proofs.lemmas.Str.{IsUtf8-append, IsUtf8-nil, IsUtf8-take, IsCharBoundary-before_ascii}
 use Rattle.std.proofs.Math.Seq.{take-add}
 use Rattle.rdf_model.specs.Terms.{Text}
@@ -50,6 +51,36 @@ string_stops b h = grind (arith, nat_tests)
 ascii_stops : (form : Form) (b : ℕ) → fits_of form b ≡ false → b < 128
 ascii_stops Iri b h = iri_stops b h
 ascii_stops Quoted b h = string_stops b h
+
+-- what ends the body or begins an escape doesn't stand for itself
+iri_end : (b : ℕ) → is_byte2 62 92 b ≡ true → is_iri_char b ≡ false
+unfolding is_iri_char
+iri_end b h = grind (arith, nat_tests)
+
+string_end : (b : ℕ) → is_byte2 34 92 b ≡ true → is_string_char b ≡ false
+unfolding is_string_char
+string_end b h = grind (arith, nat_tests)
+
+ends : (form : Form) (b : ℕ) → is_byte2 (close_of form) 92 b ≡ true → fits_of form b ≡ false
+ends Iri b h = iri_end b h
+ends Quoted b h = string_end b h
+
+-- where all before the first such byte stand for themselves, they are the run
+pub run_to_end : (form : Form) (bytes : List ℕ) (r : Option ℕ) (n : ℕ) → IsFirstByte (is_byte2 (close_of form) 92) bytes r → n ≡ unwrap_or r (length bytes)
+    → list_all (fits_of form) (take n bytes) ≡ true → n ≡ prefix_len (fits_of form) bytes
+run_to_end form bytes r n first is fit = sym (prefix_len_is (fits_of form) bytes n 0 (within r first is) before (here r first is)) where
+  within : (r : Option ℕ) → IsFirstByte (is_byte2 (close_of form) 92) bytes r → n ≡ unwrap_or r (length bytes) → n ≤ length bytes
+  within None first is = omega (arith, is)
+  within (Some i) first is = omega (arith, is, first.0.high)
+
+  before : (k : ℕ) → k < n → fits_of form (get_or bytes k 0) ≡ true
+  before k h =
+      let l : k < length (take n bytes) = omega (arith, length-take n bytes, within r first is) in
+      ap (fits_of form) (sym (get_or-take n bytes k 0 h)) ∙ AllPass-from_list_all (fits_of form) (take n bytes) fit k 0 l
+
+  here : (r : Option ℕ) → IsFirstByte (is_byte2 (close_of form) 92) bytes r → n ≡ unwrap_or r (length bytes) → n < length bytes → fits_of form (get_or bytes n 0) ≡ false
+  here None first is h = absurd (omega (arith, is))
+  here (Some i) first is h = ap (λ k. fits_of form (get_or bytes k 0)) is ∙ ends form (get_or bytes i 0) first.1
 
 found : (form : Form) (bytes text rest : List ℕ) → body_of form bytes ≡ Some (text, rest) → Spells (fits_of form) (close_of form) (escapes_of form) bytes text rest
 found form bytes text rest h = body_found (fits_of form) (close_of form) (escapes_of form) (escape_of form) (finds_escapes form) bytes 0 text rest h

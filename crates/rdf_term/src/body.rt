@@ -1,12 +1,13 @@
 //! The body of an IRI or a string: runs of bytes that stand for themselves, and escapes between them.
 ghost use Rattle.std.specs.Prelude.{◌≡◌, ◌≢◌, ◌<◌, ◌≤◌, ℕ, List, ◌∷◌, length, Option, MatchOption};
-ghost use Rattle.std.specs.List.{prefix_len};
+ghost use Rattle.std.specs.List.{list_all, prefix_len};
 ghost use Rattle.rdf_term.specs.Body.{fits_of, close_of, escape_of, RunsTo, StopsAt, ReadsBody};
 ghost use Rattle.rdf_term.specs.Room.{room_of};
 
-use crate::classes::{fits_iri, fits_string};
+use crate::classes::{all_fit_iri, all_fit_string, fits_iri, fits_string};
 use crate::escape::{iri_escape, string_escape};
 use crate::scratch::Scratch;
+use memchr::memchr2;
 use std::str;
 
 /// What is behind the first byte, where it is this one.
@@ -32,6 +33,16 @@ impl Form {
         match self {
             Form::Iri => fits_iri(b),
             Form::Quoted => fits_string(b),
+        }
+    }
+
+    /// Whether each byte stands for itself.
+    fn all_fit(self, run: &[u8]) -> bool
+        ensures { result ≡ list_all (fits_of self) run.now }
+    {
+        match self {
+            Form::Iri => all_fit_iri(run),
+            Form::Quoted => all_fit_string(run),
         }
     }
 
@@ -64,8 +75,8 @@ enum Stop {
     Bad,
 }
 
-/// How many bytes stand for themselves, up to the first that doesn't.
-fn run_len(form: Form, bytes: &[u8]) -> usize
+/// How many bytes stand for themselves, up to the first that doesn't, one after another.
+fn run_len_by_bytes(form: Form, bytes: &[u8]) -> usize
     ensures { result ≡ prefix_len (fits_of form) bytes.now }
 {
     for (i, b) in bytes.iter().enumerate() {
@@ -74,6 +85,18 @@ fn run_len(form: Form, bytes: &[u8]) -> usize
         }
     }
     bytes.len()
+}
+
+/// The same, with a test of all at once where the first that doesn't is a backslash or ends the body, as in each body
+/// that is read.
+fn run_len(form: Form, bytes: &[u8]) -> usize
+    ensures { result ≡ prefix_len (fits_of form) bytes.now }
+{
+    let end = memchr2(form.close(), b'\\', bytes).unwrap_or(bytes.len());
+    if form.all_fit(&bytes[..end]) {
+        return end;
+    }
+    run_len_by_bytes(form, bytes)
 }
 
 /// The run at the front; none where it isn't UTF-8.

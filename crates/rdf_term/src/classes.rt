@@ -1,6 +1,7 @@
 //! The classes of characters that the terminals are made of (`ntriples_model`'s `specs/Characters.antt`).
 ghost use Rattle.std.specs.Prelude.{◌≡◌, ◌<◌, true, false, MatchOption};
 ghost use Rattle.std.specs.Char.{digit_value};
+ghost use Rattle.std.specs.List.{list_all};
 ghost use Rattle.ntriples_model.specs.Characters.{is_letter, is_letter_or_digit, is_hex, is_label_start, is_pn_chars, is_pn_chars_base, is_iri_char, is_string_char, is_scheme_char};
 
 /// A byte of an IRI that stands for itself.
@@ -8,11 +9,27 @@ ghost use Rattle.ntriples_model.specs.Characters.{is_letter, is_letter_or_digit,
 pub fn fits_iri(b: u8) -> bool
     ensures { result ≡ is_iri_char b }
 {
-    b > b' '
-        && !matches!(
-            b,
-            b'<' | b'>' | b'"' | b'{' | b'}' | b'|' | b'^' | b'`' | b'\\'
-        )
+    (b > b' ')
+        & (b != b'<')
+        & (b != b'>')
+        & (b != b'"')
+        & (b != b'{')
+        & (b != b'}')
+        & (b != b'|')
+        & (b != b'^')
+        & (b != b'`')
+        & (b != b'\\')
+}
+
+/// Whether each byte fits in an IRI. No byte ends the loop, so many are tested at once.
+pub(crate) fn all_fit_iri(run: &[u8]) -> bool
+    ensures { result ≡ list_all is_iri_char run.now }
+{
+    let mut fit = true;
+    for b in run {
+        fit &= fits_iri(*b);
+    }
+    fit
 }
 
 /// A character that IRIREF doesn't leave out.
@@ -28,7 +45,18 @@ pub(crate) fn in_iri(c: char) -> bool
 pub(crate) fn fits_string(b: u8) -> bool
     ensures { result ≡ is_string_char b }
 {
-    !matches!(b, b'"' | b'\\' | b'\n' | b'\r')
+    (b != b'"') & (b != b'\\') & (b != b'\n') & (b != b'\r')
+}
+
+/// Whether each byte fits in a string; as `all_fit_iri`.
+pub(crate) fn all_fit_string(run: &[u8]) -> bool
+    ensures { result ≡ list_all is_string_char run.now }
+{
+    let mut fit = true;
+    for b in run {
+        fit &= fits_string(*b);
+    }
+    fit
 }
 
 #[tactic(auto, using(std::proofs::lemmas::Bool::Decides::nat_tests), unfolding(ntriples_model::specs::Characters::is_letter))]

@@ -1,6 +1,6 @@
 //! A lexical form in a text, cut into runs of plain bytes and the escapes between them.
 ghost use Rattle.std.specs.Prelude.{◌≡◌, false};
-ghost use Rattle.std.specs.List.{prefix_len};
+ghost use Rattle.std.specs.List.{list_all, prefix_len};
 ghost use Rattle.rdf_term.specs.Escapes.{escape_by, stays, CutsTo};
 
 /// Which characters are escaped.
@@ -18,9 +18,10 @@ impl Escapes {
     fn keeps(self, b: u8) -> bool
         ensures { result ≡ stays self b }
     {
+        let plain = (b != b'"') & (b != b'\\') & (b != b'\n') & (b != b'\r');
         match self {
-            Escapes::Canon => !matches!(b, b'"' | b'\\' | b'\n' | b'\r'),
-            Escapes::Tsv => !matches!(b, b'"' | b'\\' | b'\n' | b'\r' | b'\t'),
+            Escapes::Canon => plain,
+            Escapes::Tsv => plain & (b != b'\t'),
         }
     }
 
@@ -38,6 +39,17 @@ impl Escapes {
             _ => "\\t",
         }
     }
+}
+
+/// Whether each byte stands for itself. No byte ends the loop, so many are tested at once.
+pub(crate) fn all_stay(escapes: Escapes, bytes: &[u8]) -> bool
+    ensures { result ≡ list_all (stays escapes) bytes.now }
+{
+    let mut stay = true;
+    for b in bytes {
+        stay &= escapes.keeps(*b);
+    }
+    stay
 }
 
 /// How many bytes stand for themselves, up to the first that doesn't.

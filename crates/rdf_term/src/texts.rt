@@ -1,11 +1,11 @@
 //! The texts of terms: `canon`, in N-Triples, and `tsv`, in an answer (`rdf_model`'s `specs/Texts.antt`).
-ghost use Rattle.std.specs.Prelude.{◌≡◌, ◌++◌, OnOk, OnErr};
+ghost use Rattle.std.specs.Prelude.{◌≡◌, ◌++◌, codes, OnOk, OnErr};
 ghost use Rattle.tn_io.specs.OutText.{Puts};
 ghost use Rattle.rdf_model.specs.Texts.{canon, tsv, kind_text};
 ghost use Rattle.rdf_term.specs.Escapes.{form_text, term_text};
 ghost use Rattle.rdf_term.specs.Seen.{lent_kind, lent_term};
 
-use crate::escaped::{Escapes, cut};
+use crate::escaped::{Escapes, all_stay, cut};
 use crate::term::{KindRef, TermRef};
 use std::alloc::Global;
 use tn_io::{Failed, Out, Sink, Text};
@@ -14,23 +14,36 @@ use trie_depth::Memory;
 /// The datatype of a literal that names none.
 pub const XSD_STRING: &str = "http://www.w3.org/2001/XMLSchema#string";
 
-/// Puts a text between two others.
-fn put_between<K: Sink>(
-    out: &mut Out<'_, K>,
-    before: &str,
-    text: &str,
-    behind: &str,
-) -> Result<(), Failed>
+/// Puts a text behind another.
+fn put_behind<K: Sink>(out: &mut Out<'_, K>, before: &str, text: &str) -> Result<(), Failed>
     ensures same_sink { out.new.sink.ghost_name ≡ out.old.sink.ghost_name }
-    ensures put { Puts K.written K.faults out.old out.new result (before.now ++ text.now ++ behind.now) }
+    ensures put { Puts K.written K.faults out.old out.new result (before.now ++ text.now) }
 {
     out.put(before.as_bytes())?;
-    out.put(text.as_bytes())?;
-    out.put(behind.as_bytes())
+    out.put(text.as_bytes())
 }
 
-/// Puts a lexical form with its escapes.
-fn put_form<K: Sink>(out: &mut Out<'_, K>, escapes: Escapes, form: &str) -> Result<(), Failed>
+/// Puts an IRI in its brackets.
+fn put_iri<K: Sink>(out: &mut Out<'_, K>, iri: &str) -> Result<(), Failed>
+    ensures same_sink { out.new.sink.ghost_name ≡ out.old.sink.ghost_name }
+    ensures put { Puts K.written K.faults out.old out.new result (codes "<" ++ iri.now ++ codes ">") }
+{
+    out.put_byte(b'<')?;
+    out.put(iri.as_bytes())?;
+    out.put_byte(b'>')
+}
+
+/// Puts a datatype behind the string of its literal.
+fn put_datatype<K: Sink>(out: &mut Out<'_, K>, datatype: &str) -> Result<(), Failed>
+    ensures same_sink { out.new.sink.ghost_name ≡ out.old.sink.ghost_name }
+    ensures put { Puts K.written K.faults out.old out.new result (codes "^^<" ++ datatype.now ++ codes ">") }
+{
+    put_behind(out, "^^<", datatype)?;
+    out.put_byte(b'>')
+}
+
+/// Puts a lexical form with its escapes, run by run.
+fn put_runs<K: Sink>(out: &mut Out<'_, K>, escapes: Escapes, form: &str) -> Result<(), Failed>
     ensures same_sink { out.new.sink.ghost_name ≡ out.old.sink.ghost_name }
     ensures put { Puts K.written K.faults out.old out.new result (form_text escapes form.now) }
 {
@@ -46,6 +59,17 @@ fn put_form<K: Sink>(out: &mut Out<'_, K>, escapes: Escapes, form: &str) -> Resu
     }
 }
 
+/// Puts a lexical form with its escapes; where it has none, as it is.
+fn put_form<K: Sink>(out: &mut Out<'_, K>, escapes: Escapes, form: &str) -> Result<(), Failed>
+    ensures same_sink { out.new.sink.ghost_name ≡ out.old.sink.ghost_name }
+    ensures put { Puts K.written K.faults out.old out.new result (form_text escapes form.now) }
+{
+    if all_stay(escapes, form.as_bytes()) {
+        return out.put(form.as_bytes());
+    }
+    put_runs(out, escapes, form)
+}
+
 /// Puts what stands behind the string of a literal.
 fn put_kind<K: Sink>(out: &mut Out<'_, K>, kind: KindRef<'_>) -> Result<(), Failed>
     ensures same_sink { out.new.sink.ghost_name ≡ out.old.sink.ghost_name }
@@ -56,9 +80,9 @@ fn put_kind<K: Sink>(out: &mut Out<'_, K>, kind: KindRef<'_>) -> Result<(), Fail
             if datatype == XSD_STRING {
                 return Ok(());
             }
-            put_between(out, "^^<", datatype, ">")
+            put_datatype(out, datatype)
         }
-        KindRef::Tagged(tag) => put_between(out, "@", tag, ""),
+        KindRef::Tagged(tag) => put_behind(out, "@", tag),
     }
 }
 
@@ -67,12 +91,12 @@ fn put_term<K: Sink>(out: &mut Out<'_, K>, escapes: Escapes, t: TermRef<'_>) -> 
     ensures put { Puts K.written K.faults out.old out.new result (term_text escapes (lent_term t.entry)) }
 {
     match t {
-        TermRef::Iri(text) => put_between(out, "<", text, ">"),
-        TermRef::Blank(label) => put_between(out, "_:", label, ""),
+        TermRef::Iri(text) => put_iri(out, text),
+        TermRef::Blank(label) => put_behind(out, "_:", label),
         TermRef::Literal(form, kind) => {
-            out.put(b"\"")?;
+            out.put_byte(b'"')?;
             put_form(out, escapes, form)?;
-            out.put(b"\"")?;
+            out.put_byte(b'"')?;
             put_kind(out, kind)
         }
     }

@@ -10,14 +10,14 @@ use Rattle.rdf_term.proofs.texts.put_term.Goals as goal
 regroup : (q f k : List ℕ) → ((q ++ f) ++ q) ++ k ≡ q ++ (f ++ (q ++ k))
 regroup q f k = append_assoc (q ++ f) q k ∙ append_assoc q f (q ++ k)
 
-pub returns-in_err-put-in-Literal-clause-put : goal.returns-in_err-put-in-Literal-clause-put
-returns-in_err-put-in-Literal-clause-put g c =
+pub returns-in_err-put_byte-in-Literal-clause-put : goal.returns-in_err-put_byte-in-Literal-clause-put
+returns-in_err-put_byte-in-Literal-clause-put g c =
     let whole = ap (λ t. term_text c.args.escapes (lent_term t)) c.in-Literal.is in
     let f = form_text c.args.escapes c.in-Literal.form.now in
     let k = kind_text (lent_kind c.in-Literal.kind) in
     let q : List ℕ = 34 ∷ [] in
     let failed = err_from_is_err_and c.from_residual.result c.from_residual.ensures.1 in
-    puts_same _ _ (sym (whole ∙ regroup q f k)) (puts_first c.put.result c.from_residual.result _ _ q (f ++ (q ++ k)) c.in_err-put-in-Literal.was failed.1 c.put.ensures.puts)
+    puts_same _ _ (sym (whole ∙ regroup q f k)) (puts_first c.put_byte.result c.from_residual.result _ _ q (f ++ (q ++ k)) c.in_err-put_byte-in-Literal.was failed.1 c.put_byte.ensures.puts)
 
 pub returns-in_err-put_form-in-Literal-clause-put : goal.returns-in_err-put_form-in-Literal-clause-put
 returns-in_err-put_form-in-Literal-clause-put g c =
@@ -27,23 +27,23 @@ returns-in_err-put_form-in-Literal-clause-put g c =
     let q : List ℕ = 34 ∷ [] in
     let failed = err_from_is_err_and c.from_residual-in_err-put_form-in-Literal.result c.from_residual-in_err-put_form-in-Literal.ensures.1 in
     puts_same _ _ (sym (whole ∙ append_assoc (q ++ f) q k)) (puts_first c.put_form.result c.from_residual-in_err-put_form-in-Literal.result _ _ (q ++ f) (q ++ k) c.in_err-put_form-in-Literal.was failed.1
-    (puts_both c.put.result c.put_form.result _ q f c.in_ok-put-in-Literal.was c.put.ensures.puts c.put_form.ensures.put))
+    (puts_both c.put_byte.result c.put_form.result _ q f c.in_ok-put_byte-in-Literal.was c.put_byte.ensures.puts c.put_form.ensures.put))
 
-pub returns-in_err-put-in-Literal-2-clause-put : goal.returns-in_err-put-in-Literal-2-clause-put
-returns-in_err-put-in-Literal-2-clause-put g c =
+pub returns-in_err-put_byte-in-Literal-2-clause-put : goal.returns-in_err-put_byte-in-Literal-2-clause-put
+returns-in_err-put_byte-in-Literal-2-clause-put g c =
     let whole = ap (λ t. term_text c.args.escapes (lent_term t)) c.in-Literal.is in
     let f = form_text c.args.escapes c.in-Literal.form.now in
     let k = kind_text (lent_kind c.in-Literal.kind) in
     let q : List ℕ = 34 ∷ [] in
-    let failed = err_from_is_err_and c.from_residual-in_err-put-in-Literal-2.result c.from_residual-in_err-put-in-Literal-2.ensures.1 in
-    puts_same _ _ (sym whole) (puts_first c.put-in-Literal.result c.from_residual-in_err-put-in-Literal-2.result _ _ ((q ++ f) ++ q) k c.in_err-put-in-Literal-2.was failed.1
-    (puts_both c.put_form.result c.put-in-Literal.result _ (q ++ f) q c.in_ok-put_form-in-Literal.was (puts_both c.put.result c.put_form.result _ q f c.in_ok-put-in-Literal.was c.put.ensures.puts c.put_form.ensures.put) c.put-in-Literal.ensures.puts))
+    let failed = err_from_is_err_and c.from_residual-in_err-put_byte-in-Literal-2.result c.from_residual-in_err-put_byte-in-Literal-2.ensures.1 in
+    puts_same _ _ (sym whole) (puts_first c.put_byte-in-Literal.result c.from_residual-in_err-put_byte-in-Literal-2.result _ _ ((q ++ f) ++ q) k c.in_err-put_byte-in-Literal-2.was failed.1
+    (puts_both c.put_form.result c.put_byte-in-Literal.result _ (q ++ f) q c.in_ok-put_form-in-Literal.was (puts_both c.put_byte.result c.put_form.result _ q f c.in_ok-put_byte-in-Literal.was c.put_byte.ensures.puts c.put_form.ensures.put) c.put_byte-in-Literal.ensures.puts))
 
-pub returns-in_ok-put-in-Literal-2-clause-put : goal.returns-in_ok-put-in-Literal-2-clause-put
-returns-in_ok-put-in-Literal-2-clause-put g c =
+pub returns-in_ok-put_byte-in-Literal-2-clause-put : goal.returns-in_ok-put_byte-in-Literal-2-clause-put
+returns-in_ok-put_byte-in-Literal-2-clause-put g c =
     let whole = ap (λ t. term_text c.args.escapes (lent_term t)) c.in-Literal.is in
     let f = form_text c.args.escapes c.in-Literal.form.now in
     let k = kind_text (lent_kind c.in-Literal.kind) in
     let q : List ℕ = 34 ∷ [] in
-    puts_same _ _ (sym whole) (puts_both c.put-in-Literal.result c.put_kind.result _ ((q ++ f) ++ q) k c.in_ok-put-in-Literal-2.was
-    (puts_both c.put_form.result c.put-in-Literal.result _ (q ++ f) q c.in_ok-put_form-in-Literal.was (puts_both c.put.result c.put_form.result _ q f c.in_ok-put-in-Literal.was c.put.ensures.puts c.put_form.ensures.put) c.put-in-Literal.ensures.puts) c.put_kind.ensures.put)
+    puts_same _ _ (sym whole) (puts_both c.put_byte-in-Literal.result c.put_kind.result _ ((q ++ f) ++ q) k c.in_ok-put_byte-in-Literal-2.was
+    (puts_both c.put_form.result c.put_byte-in-Literal.result _ (q ++ f) q c.in_ok-put_form-in-Literal.was (puts_both c.put_byte.result c.put_form.result _ q f c.in_ok-put_byte-in-Literal.was c.put_byte.ensures.puts c.put_form.ensures.put) c.put_byte-in-Literal.ensures.puts) c.put_kind.ensures.put)

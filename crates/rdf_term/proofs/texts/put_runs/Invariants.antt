@@ -4,7 +4,7 @@ use denote.Text.{Utf8}
 use denote.Shadow.{shadow}
 use Rattle.tn_io.specs.OutText.{Puts}
 use Rattle.rdf_term.specs.Escapes.{form_text}
-use Rattle.rdf_term.proofs.texts.put_form.Given as goal
+use Rattle.rdf_term.proofs.texts.put_runs.Given as goal
 
 -- what was put and what is left are the whole text
 abbrev pub invariant-loop-escape : goal.invariant-loop-escape

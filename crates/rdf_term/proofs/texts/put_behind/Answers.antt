@@ -1,0 +1,17 @@
+use Rattle.std.proofs.Common.{◌∙◌, ◌++◌, ap}
+use Rattle.std.proofs.lemmas.Result.{err_from_is_err_and}
+use Rattle.tn_io.proofs.PutLemmas.{puts_same, puts_both, puts_first}
+use Rattle.rdf_term.proofs.texts.put_behind.Goals as goal
+
+pub returns-in_err-put-clause-put : goal.returns-in_err-put-clause-put
+returns-in_err-put-clause-put g c =
+    let failed = err_from_is_err_and c.from_residual.result c.from_residual.ensures.1 in
+    puts_same _ _ (ap (λ z. z ++ c.args.text.now) c.as_bytes.ensures.value)
+    (puts_first c.put.result c.from_residual.result _ _ c.as_bytes.result.now c.args.text.now c.in_err-put.was failed.1 c.put.ensures.puts)
+
+pub returns-clause-put : goal.returns-clause-put
+returns-clause-put g c =
+    let x = c.as_bytes.result.now in
+    let y = c.as_bytes-2.result.now in
+    puts_same _ _ (ap (λ z. z ++ y) c.as_bytes.ensures.value ∙ ap (λ z. c.args.before.now ++ z) c.as_bytes-2.ensures.value)
+    (puts_both c.put.result c.put-2.result _ x y c.in_ok-put.was c.put.ensures.puts c.put-2.ensures.puts)

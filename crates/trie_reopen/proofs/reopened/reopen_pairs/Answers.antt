@@ -9,7 +9,8 @@ use Rattle.trie_node.specs.declared.node.Node.{Node}
 use Rattle.trie_node.specs.Sets.{edges_of}
 use Rattle.trie_context.specs.Rows.{node_of, set_of}
 use Rattle.trie_context.specs.Holds.{one_at, at_depth}
-use Rattle.trie_context.specs.FitEdges.{StandsAt}
+use Rattle.trie_context.specs.FitEdges.{StandsAt, option_leads}
+use Rattle.trie_context.specs.MoveLaws.{at_same}
 use Rattle.change_log.specs.Laws.{grows_on, logged_as}
 use Rattle.change_log.specs.Log.{Grows, edge_hold}
 use Rattle.change_log.specs.Logged.{IsLogged}
@@ -18,6 +19,7 @@ use Rattle.trie_change.specs.Batches.{set_of_entries, trip_rest}
 use Rattle.trie_change.specs.BatchLaws.{order_once}
 use Rattle.trie_change.specs.Changes.{grows}
 use Rattle.trie_change.specs.FigureLaws.{has_size, size_is, hash_is}
+use Rattle.trie_change.specs.HandLaws.{leads_once}
 use Rattle.trie_change.specs.PairLaws.{changes_of, if_ok, on_err}
 use Rattle.trie_reopen.proofs.Unmoved.{err_then}
 use Rattle.trie_reopen.proofs.OwnMaps.{slices_fit}
@@ -196,7 +198,7 @@ returns-then-size-eq0-clause-logged g c =
     let t0 = c.args.context.now in
     let row = c.args.row in
     logged_as g.M.Mix.mixed t0 t0 c.args.log.now.steps c.leave_pairs.new.log.steps (edge_hold 2 None) (edge_hold 2 (Some (ToRow row))) 0 c.in_ok-leave_pairs.ensures.logged
-    (edge_hold 2 None) (at_depth 2 (one_at row)) (run_room c.args.run.now) (λ e r. refl) (λ e r. refl) (omega arith)
+    (edge_hold 2 None) (at_depth 2 (one_at row)) (run_room c.args.run.now) (λ e r. refl) (at_same 2 (option_leads (Some (ToRow row))) (one_at row) (leads_once row)) (omega arith)
 
 pub store_pairs-requires-clause-form : goal.store_pairs-requires-clause-form
 store_pairs-requires-clause-form g c =

@@ -22,7 +22,7 @@ use Rattle.edge_map.specs.Edges.{Edges}
 use Rattle.node_table.specs.Table.{Row}
 use Rattle.trie_node.specs.declared.node.Node.{Node}
 use Rattle.trie_node.specs.declared.node.Node.TheVariants.{Single, Full}
-use Rattle.trie_node.specs.Sets.{key_set_of, map_at, tuple_mix, set_hash, hash_of_node}
+use Rattle.trie_node.specs.Sets.{key_set_of, map_at, tuple_mix, set_hash, hash_of_node, size_of}
 use Rattle.trie_node.specs.Forms.{IsKeyNode}
 use Rattle.trie_context.specs.declared.tables.Tables.{Tables}
 use Rattle.trie_context.specs.Rows.{row_of, row_set, set_of}
@@ -120,3 +120,10 @@ module _ (mixed : ℕ → ℕ → ℕ → ℕ → ℕ) (t : Tables) (kept : AreK
   -- and it carries the hash of its set
   pub read_hash : hash_of_node mixed node ≡ set_hash mixed 1 (set_of t 1 n)
   read_hash = formed_hash node read_formed ∙ ap (set_hash mixed 1) (sym read_stands)
+
+  formed_size : (x : Node) → IsKeyNode (set_hash mixed 1) x → size_of x ≡ set.len (key_set_of x)
+  formed_size (Single p) formed = absurd formed
+  formed_size (Full s h a b c) formed = formed.told.sized
+
+  pub read_size : size_of node ≡ set.len (set_of t 1 n)
+  read_size = formed_size node read_formed ∙ ap set.len (sym read_stands)

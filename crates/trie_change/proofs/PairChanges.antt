@@ -23,7 +23,7 @@ use Rattle.trie_change.specs.Batches.{set_of_entries, trip_rest}
 use Rattle.trie_change.specs.Rooms.{FitsSome, AreSlicesAt}
 use Rattle.trie_change.specs.Nodes.{ArePairParts, IsPairNodeOf}
 use Rattle.trie_change.specs.DepthLaws.{edge_deep, after_deep, trip_rest_deep}
-use Rattle.trie_change.specs.HandLaws.{leads_once, no_edges, no_leads, set_at_stays, slices_stay, row_stands, hand_held, given_back}
+use Rattle.trie_change.specs.HandLaws.{leads_once, set_at_stays, slices_stay, row_stands, hand_held, given_back}
 
 -- the edges of both positions
 abbrev pub both_lead : Edges → Edges → ℕ → ℕ
@@ -54,15 +54,6 @@ module _ (mixed : ℕ → ℕ → ℕ → ℕ → ℕ) (t : Tables) (kept : AreK
   changed_deep change old fits run = after_deep 2 (grows change) (set_at t 2 old) (set_of_entries trip_rest run) (edge_deep mixed t kept 2 old fits) (trip_rest_deep run)
 
   module _ (u : Tables) (G : IdSet) (a b : Edges) (made : AreBoth mixed t u G a b) where
-    -- no tuple is left: nothing is in hand
-    pub none_moved : G ≡ set.empty → AreMoved mixed t u (at_depth 2 (option_leads None)) nothing
-    none_moved none = moved_as made.moved (at_depth 2 (option_leads None)) nothing (λ d r.
-        let first = no_leads a (no_edges u 1 G 0 a none made.first) in
-        let second = no_leads b (no_edges u 1 G 1 b none made.second) in
-        let e = at_none 1 (both_lead a b) (λ r. omega (arith, first r, second r)) d r in
-        let f = at_none 2 (option_leads None) (λ r. refl) d r in
-        omega arith)
-
     module _ (s h : ℕ) (deep : HasDepth 2 G) (sized : s ≡ set.len G) (hashed : h ≡ set_hash mixed 2 G) where
       pub pair_parts : ArePairParts mixed (set_of u 1) G s h a b
       pair_parts = record { deep = deep; sized = sized; hashed = hashed; first = made.first; second = made.second }

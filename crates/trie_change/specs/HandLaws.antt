@@ -32,16 +32,6 @@ use Rattle.trie_change.specs.DepthLaws.{slice-empty}
 pub leads_once : (k r : ℕ) → leads (ToRow k) r ≡ one_at k r
 leads_once k r = same_or_not r k _ (λ is. if_same k r 1 0 (sym is) ∙ sym (if_same r k 1 0 is)) (λ ne. if_other k r 1 0 (λ e. ne (sym e)) ∙ sym (if_other r k 1 0 ne))
 
--- the map of the slices of no tuple has no edge
-pub no_edges : (t : Tables) (d : ℕ) (S : IdSet) (i : ℕ) (m : Edges) → S ≡ empty nat_cmp → AreSlicesAt t d S i m → m ≡ map.empty
-no_edges t d S i m none slices = same_maps total exact m map.empty (λ k. by k (map.get m k) (slices k) ∙ sym (map.get-empty nat_cmp k)) where
-  by : (k : ℕ) (o : Option Edge) → StandsAt t d (slice nat_cmp S i k) o → o ≡ None
-  by k None stands = refl
-  by k (Some e) stands = absurd (edge_filled t d e stands.0 (stands.1 ∙ ap (λ H. slice nat_cmp H i k) none ∙ slice-empty i k))
-
-pub no_leads : (m : Edges) → m ≡ map.empty → (r : ℕ) → edges_in m r ≡ 0
-no_leads m none r = ap (λ n. edges_in n r) none ∙ sum_over-empty total exact (λ _ e. leads e r)
-
 module _ (mixed : ℕ → ℕ → ℕ → ℕ → ℕ) (t u : Tables) (kept : AreKept mixed t) (stay : RowsStay t u) where
   -- an edge still fits, and stands for the same set
   pub fits_stay : (d : ℕ) (o : Option Edge) → FitsSome t d o → FitsSome u d o

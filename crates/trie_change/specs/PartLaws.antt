@@ -26,7 +26,7 @@ use Rattle.trie_change.specs.Changes.{grows, size_after}
 use Rattle.trie_context.specs.DepthLaws.{empty_deep, set_deep, first_is}
 use Rattle.trie_change.specs.DepthLaws.{after_deep, trip_tuple_deep}
 use Rattle.trie_change.specs.FigureLaws.{size_is, hash_is}
-use Rattle.trie_change.specs.HandLaws.{no_edges, no_leads, slices_stay}
+use Rattle.trie_change.specs.HandLaws.{slices_stay}
 use Rattle.trie_change.specs.Nodes.{AreTripleParts}
 use Rattle.trie_change.specs.Rooms.{AreSlicesAt, row_set_at, first_set}
 
@@ -58,9 +58,6 @@ module _ {mixed : ℕ → ℕ → ℕ → ℕ → ℕ} (t : Tables) {H : IdSet} 
   pub whole_is : first_set t 2 a ≡ H
   whole_is = first_is (IsTripleEdge (set_of t 2)) (set_of t 2) 2 H a parts.deep parts.first
 
-  pub none_is : s ≡ 0 → empty nat_cmp ≡ H
-  none_is none = sym (set.empty_of_len H (sym parts.sized ∙ none))
-
   pub one_whole : s ≡ 1 → set.len (first_set t 2 a) ≡ 1
   one_whole one = ap set.len whole_is ∙ sym parts.sized ∙ one
 
@@ -75,12 +72,6 @@ module _ {mixed : ℕ → ℕ → ℕ → ℕ → ℕ} (t : Tables) {H : IdSet} 
     second = subst (λ S. AreSlices (IsTripleEdge (set_of t 2)) (set_of t 2) S 1 b) (sym whole_is) parts.second;
     third = subst (λ S. AreSlices (IsTripleEdge (set_of t 2)) (set_of t 2) S 2 c) (sym whole_is) parts.third;
   }
-
-  -- the maps of no triple have no edges
-  pub no_edge : s ≡ 0 → (d r : ℕ) → at_depth 2 (λ r. edges_in a r + (edges_in b r + edges_in c r)) d r ≡ 0
-  no_edge none = at_none 2 (λ r. edges_in a r + (edges_in b r + edges_in c r)) (λ r. omega (arith, at_position 0 a parts.first r, at_position 1 b parts.second r, at_position 2 c parts.third r)) where
-    at_position : (i : ℕ) (m : Edges) → AreSlicesAt t 2 H i m → (r : ℕ) → edges_in m r ≡ 0
-    at_position i m slices = no_leads m (no_edges t 2 H i m (sym (none_is none)) slices)
 
   -- the row that the node has later stands for the set
   pub root_is : (u : Tables) → AreKept mixed t → RowsStay t u → (k : ℕ) → node_of u 3 k ≡ Some (Full s h a b c) → set_of u 3 k ≡ H

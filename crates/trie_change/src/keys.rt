@@ -2,6 +2,9 @@
 ghost use Rattle.std.specs.Prelude.{◌≡◌, ℕ, ◌+◌, ◌≤◌, IsNone, IfSome, IfOk, OnErr};
 ghost use Rattle.std.specs.Prelude.{map as each};
 ghost use Rattle.std.specs.FinMap as map;
+ghost use Rattle.std.specs.FinSet as set;
+ghost use Rattle.edge_map.specs.Edges.{Edges, changed};
+ghost use Rattle.edge_map.specs.Entries.{KeysRise};
 ghost use Rattle.trie_node.specs.Sets.{leads, set_hash};
 ghost use Rattle.trie_context.specs.Holds.{nothing};
 ghost use Rattle.trie_context.specs.declared.tables.Tables.{Tables};
@@ -13,7 +16,7 @@ ghost use Rattle.trie_context.specs.FitEdges.{set_at, StandsAt};
 ghost use Rattle.trie_change.specs.Premises.{MayChangeEdge};
 ghost use Rattle.trie_change.specs.Rooms.{LeavesRoom, FitsSome, AreKeys};
 
-use crate::change::Change;
+use crate::change::{Change, takes_all};
 use crate::hash::toggled_keys;
 use edge_map::{Edge, EdgeMap};
 use std::alloc::Global;
@@ -22,35 +25,41 @@ use trie_context::Context;
 use trie_depth::{Id, L1, Memory, Mix, Pair, Steps};
 use trie_node::{Node, toggled};
 
-/// The keys that an edge stands for, each under itself.
-fn keys_of<M: Mix>(
+/// The keys that an edge stands for, each under itself, with the changes made.
+fn keys_with<M: Mix>(
     alloc: Global,
     context: &Context<M>,
     edge: Option<Edge>,
+    changes: &[(Id, Option<Edge>)],
 ) -> Result<EdgeMap, Memory>
-    requires { FitsSome context.now 1 edge }
-    ensures { IfOk result (AreKeys (set_at context.now 1 edge)) }
+    requires fits { FitsSome context.now 1 edge }
+    requires rising { KeysRise changes.now }
+    ensures { IfOk result (λ m. (old : Edges) × AreKeys (set_at context.now 1 edge) old × (m ≡ changed old changes.now)) }
 {
     let empty = EdgeMap::new(alloc);
     match edge {
-        None => Ok(empty),
-        Some(Edge::Key(key)) => empty.with(&[(key, Some(Edge::Key(key)))]),
+        None => empty.with(changes),
+        Some(Edge::Key(key)) => empty.with(&[(key, Some(Edge::Key(key)))])?.with(changes),
         Some(Edge::Node(row)) => match context.tables().one.node(row).map(0) {
-            Some(keys) => keys.share(),
-            None => Ok(empty),
+            Some(keys) => keys.with(changes),
+            None => empty.with(changes),
         },
     }
 }
 
-/// The hash of the keys that an edge stands for.
-fn key_hash<M: Mix>(context: &Context<M>, edge: Option<Edge>) -> u64
+/// How many keys an edge stands for, and the hash of their set.
+fn key_figures<M: Mix>(context: &Context<M>, edge: Option<Edge>) -> (u64, u64)
     requires { FitsSome context.now 1 edge }
-    ensures { result ≡ set_hash M.mixed 1 (set_at context.now 1 edge) }
+    ensures size { result.0 ≡ set.len (set_at context.now 1 edge) }
+    ensures hash { result.1 ≡ set_hash M.mixed 1 (set_at context.now 1 edge) }
 {
     match edge {
-        None => 0,
-        Some(Edge::Key(key)) => toggled::<M, L1>(0, key),
-        Some(Edge::Node(row)) => context.tables().one.node(row).hash_of::<M>(),
+        None => (0, 0),
+        Some(Edge::Key(key)) => (1, toggled::<M, L1>(0, key)),
+        Some(Edge::Node(row)) => {
+            let node = context.tables().one.node(row);
+            (node.size(), node.hash_of::<M>())
+        }
     }
 }
 
@@ -91,7 +100,7 @@ fn changed_keys<M: Mix>(
     ensures { IfOk result (AreKeys (keys_after change context.now old run.now)) }
 {
     let changes = key_changes(alloc, change, run)?;
-    keys_of(alloc, context, old)?.with(&changes)
+    keys_with(alloc, context, old, &changes)
 }
 
 /// The edge under the least key.
@@ -131,6 +140,10 @@ fn change_many_keys<M: Mix, W: Ledger>(
     ensures ticks { interns.new ≤ interns.old + 1 }
 {
     context.is_kept();
+    let (before, hash) = key_figures(context, old);
+    if takes_all(change, before, run.len() as u64) {
+        return Ok(None);
+    }
     let keys = changed_keys(alloc, context, change, old, run)?;
     let size = keys.len();
     if size < 2 {
@@ -138,7 +151,7 @@ fn change_many_keys<M: Mix, W: Ledger>(
     }
     let node = Node::Full {
         size,
-        hash: toggled_keys::<M>(key_hash(context, old), run),
+        hash: toggled_keys::<M>(hash, run),
         first: keys,
         second: EdgeMap::new(alloc),
         third: EdgeMap::new(alloc),

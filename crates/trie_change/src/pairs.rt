@@ -167,6 +167,9 @@ fn change_many_pairs<M: Mix, W: Ledger, V: Ledger>(
     context.is_kept();
     let (size, hash) = pair_figures(context, old);
     let size = changed_size(change, size, run.len() as u64);
+    if size == 0 {
+        return Ok(None);
+    }
     let hash = toggled_pairs::<M>(hash, run);
     let first = change_pair_position(alloc, context, change, old, run, 0, interns, retains)?;
     let second = match change_pair_position(alloc, context, change, old, run, 1, interns, retains) {
@@ -176,9 +179,6 @@ fn change_many_pairs<M: Mix, W: Ledger, V: Ledger>(
             return Err(memory);
         }
     };
-    if size == 0 {
-        return Ok(None);
-    }
     let node = pair_node::<M>(alloc, size, hash, first, second);
     let held = context.intern::<L2, W>(node, interns)?;
     Ok(Some(held.into_edge()))

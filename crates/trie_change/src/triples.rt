@@ -183,13 +183,13 @@ pub fn change_root<M: Mix, W: Ledger, V: Ledger>(
     context.is_kept();
     let (size, hash) = triple_figures(context, old);
     let size = changed_size(change, size, batch.len() as u64);
+    if size == 0 {
+        return Ok(Root::Empty);
+    }
     let hash = toggled_triples::<M>(hash, batch);
     let (first, second, third) = change_positions(
         alloc, context, change, old, batch, interns, retains,
     )?;
-    if size == 0 {
-        return Ok(Root::Empty);
-    }
     if size == 1 {
         let triple = lone_triple(context, &first);
         release_positions(context, &first, &second, &third);

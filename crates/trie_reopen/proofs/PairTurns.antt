@@ -27,7 +27,6 @@ use Rattle.trie_change.specs.declared.change.Change.{Change}
 use Rattle.trie_change.specs.Batches.{set_of_entries, trip_rest}
 use Rattle.trie_change.specs.Changes.{grows}
 use Rattle.trie_change.specs.DepthLaws.{after_deep, edge_deep, trip_rest_deep}
-use Rattle.trie_change.specs.HandLaws.{no_edges, no_leads}
 use Rattle.trie_change.specs.Nodes.{ArePairParts, IsPairNodeOf}
 use Rattle.trie_change.specs.PairLaws.{slices_after}
 use Rattle.trie_change.specs.Rooms.{FitsSome, AreSlicesAt, AreChanged}
@@ -66,12 +65,6 @@ module _ (mixed : ℕ → ℕ → ℕ → ℕ → ℕ) (t0 : Tables) (l0 : List 
   first_held t log G i x F j y most s r = omega (arith, two_held mixed 1 t0 l0 (at_depth 2 (one_at row)) (pairs_apart row) t log G i x F j y most s r)
 
   module _ (t : Tables) (log : List Step) (G : IdSet) (x y : Edges) (most : ℕ) (s : Maps mixed t0 l0 row t log G 0 x G 1 y most) where
-    -- no pair is left: nothing is in hand
-    pub nothing_left : G ≡ empty nat_cmp → (whole : ℕ) → most ≤ whole → IsLogged mixed t0 t l0 log (edge_hold 2 None) (at_depth 2 (one_at row)) whole
-    nothing_left none whole room = logged_as mixed t0 t l0 log (at_depth 1 (λ r. edges_in x r + edges_in y r)) (at_depth 2 (one_at row)) most s.logged (edge_hold 2 None) (at_depth 2 (one_at row)) whole
-        (λ e r. at_none 1 (λ r. edges_in x r + edges_in y r) (λ r. omega (arith, no_leads x (no_edges t 1 G 0 x none s.one) r, no_leads y (no_edges t 1 G 1 y none s.two) r)) e r ∙ sym (at_none 2 (option_leads None) (λ r. refl) e r))
-        (λ e r. refl) room
-
     module _ (node : Node) (is : IsPairNodeOf mixed (set_of t 1) G x y node) where
       pub node_held : (r : ℕ) → edges_of node r ≤ holds_of t 1 r
       node_held r = omega (arith, two_held mixed 1 t0 l0 (at_depth 2 (one_at row)) (pairs_apart row) t log G 0 x G 1 y most s r, is.edges r)

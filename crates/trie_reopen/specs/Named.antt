@@ -1,10 +1,11 @@
 -- What the calls over a log answer: old edges were in hand, and new ones are; what they retain.
-use Rattle.std.specs.Prelude.{◌≡◌, ℕ, ◌+◌, ◌*◌, ◌-◌, ◌≤◌, List, Option, Some, length}
+use Rattle.std.specs.Prelude.{◌≡◌, ℕ, ◌+◌, ◌*◌, ◌-◌, ◌≤◌, List, Option, None, Some, length}
 use Rattle.hypertrie_model.specs.IdSets.{IdSet}
 use Rattle.trie_depth.specs.declared.id.Id.{Id}
 use Rattle.trie_depth.specs.declared.id.Pair.{Pair}
 use Rattle.trie_depth.specs.declared.id.Trip.{Trip}
 use Rattle.edge_map.specs.declared.edge.Edge.{Edge}
+use Rattle.edge_map.specs.declared.edge.Edge.TheVariants.{Node as ToRow}
 use Rattle.edge_map.specs.Edges.{Edges, changed}
 use Rattle.trie_node.specs.declared.node.Node.{Node}
 use Rattle.trie_node.specs.Sets.{edges_in, edges_of}
@@ -67,6 +68,10 @@ module _ (mixed : ℕ → ℕ → ℕ → ℕ → ℕ) (t u : Tables) (log later
 
   abbrev pub OpensTriples : ℕ → Type 0
   OpensTriples row = (n : Node) × (node_of t 3 row ≡ Some n) × IsLogged mixed t u log.steps later.steps (at_depth 2 (edges_of n)) (at_depth 3 (one_at row)) 0
+
+-- no edge for the hold of a row of pairs, which stays as it was
+abbrev pub LeavesRow : (ℕ → ℕ → ℕ → ℕ → ℕ) → Tables → Seen → Seen → ℕ → Type 0
+LeavesRow mixed t log later row = ReplacesEdge mixed t t log later 2 (Some (ToRow row)) 0 None
 
 -- the holds fell by that of the row of triples, and rose by those of its edges
 abbrev pub HoldsAreOpened : Tables → Tables → ℕ → Type 0

@@ -1,5 +1,5 @@
 //! A row of pairs that nothing else leads to, opened, changed and stored again.
-ghost use Rattle.std.specs.Prelude.{◌≡◌, ◌≢◌, ◌+◌, ◌*◌, ◌≤◌, ◌<◌, ◌^◌, ℕ, Some, IsNone, IfSome, IfOk, OnErr, length};
+ghost use Rattle.std.specs.Prelude.{◌≡◌, ◌≢◌, ◌+◌, ◌*◌, ◌≤◌, ◌<◌, ◌^◌, ℕ, Some, IsNone, IfSome, IfOk, OnOk, OnErr, length};
 ghost use Rattle.std.specs.FinSet as set;
 ghost use Rattle.change_log.specs.Log.{edge_hold, Grows};
 ghost use Rattle.edge_map.specs.declared.edge.Edge.{Edge};
@@ -11,11 +11,11 @@ ghost use Rattle.trie_change.specs.Batches.{trip_rest};
 ghost use Rattle.trie_change.specs.Premises.{MayChangeEdge};
 ghost use Rattle.trie_change.specs.Rooms.{LeavesRoom, FitsSome};
 ghost use Rattle.trie_reopen.specs.Shared.{HoldsRiseBy};
-ghost use Rattle.trie_reopen.specs.Named.{ReplacesEdge, ReplacesRow, RunRetains};
+ghost use Rattle.trie_reopen.specs.Named.{LeavesRow, ReplacesEdge, ReplacesRow, RunRetains};
 
 use crate::pair_map::replace_pair_map;
 use crate::pairs::{open_pairs, pair_maps, replace_pairs, store_pairs};
-use change_log::Log;
+use change_log::{Log, RowStep, Step};
 use edge_map::Edge;
 use std::alloc::Global;
 use std::sync::ledger::Ledger;
@@ -23,8 +23,19 @@ use trie_change::{Change, changed_size, pair_figures, pair_node, pairs_by_key, t
 use trie_context::Context;
 use trie_depth::{Memory, Mix, Steps, Trip};
 
+/// Gives up the hold of a row of which no pair is left, and keeps it in the log.
+fn leave_pairs<M: Mix>(context: &Context<M>, row: usize, log: &mut Log) -> Result<(), Memory>
+    ensures logged { OnOk result (LeavesRow M.mixed context.now log.old log.new row) }
+    ensures grew { OnErr result (Grows M.mixed context.now context.now log.old.steps log.new.steps) }
+{
+    context.is_kept();
+    log.reserve()?;
+    log.push(Step::Pairs(RowStep::Replaced(Some(Edge::Node(row)), None)));
+    Ok(())
+}
+
 /// The edge for the pairs of a row with one hold, changed by those behind the first key of the run. The row is taken out,
-/// and its edges are changed in place.
+/// and its edges are changed in place; but where no pair is left, it stays as it is until the log is settled.
 fn reopen_pairs<M: Mix, W: Ledger>(
     alloc: Global,
     context: &mut Context<M>,
@@ -49,6 +60,10 @@ fn reopen_pairs<M: Mix, W: Ledger>(
     context.is_kept();
     let (size, hash) = pair_figures(context, Some(Edge::Node(row)));
     let size = changed_size(change, size, run.len() as u64);
+    if size == 0 {
+        leave_pairs(context, row, log)?;
+        return Ok(None);
+    }
     let hash = toggled_pairs::<M>(hash, run);
     let by_first = pairs_by_key(alloc, run, 0)?;
     let by_second = pairs_by_key(alloc, run, 1)?;
@@ -57,9 +72,6 @@ fn reopen_pairs<M: Mix, W: Ledger>(
     open_pairs(context, row, log);
     let one = replace_pair_map(alloc, context, change, &first, &by_first, log, interns)?;
     let two = replace_pair_map(alloc, context, change, &second, &by_second, log, interns)?;
-    if size == 0 {
-        return Ok(None);
-    }
     let node = pair_node::<M>(alloc, size, hash, one, two);
     store_pairs(context, node, log, interns)
 }

@@ -1,19 +1,20 @@
-use Rattle.std.proofs.Common.{◌≡◌, ◌≤◌, ap, subst, sym, ◌∙◌, refl, length, arith}
+use Rattle.std.proofs.Common.{◌≡◌, ◌≤◌, None, ap, subst, sym, ◌∙◌, refl, length, arith}
 use Rattle.std.specs.FinSet as set
 use Rattle.hypertrie_model.specs.Changes.{after, IsChange}
 use Rattle.trie_node.specs.Sets.{edges_in}
 use Rattle.trie_context.specs.Rows.{set_of}
 use Rattle.trie_context.specs.Holds.{holds_of, one_at, at_depth, nothing, RowsStay}
 use Rattle.trie_context.specs.Kept.{AreMoved}
-use Rattle.trie_context.specs.FitEdges.{set_at}
+use Rattle.trie_context.specs.FitEdges.{set_at, option_leads}
+use Rattle.trie_change.specs.After.{run_room}
 use Rattle.trie_change.specs.Batches.{set_of_entries, trip_rest}
 use Rattle.trie_change.specs.BatchLaws.{order_once}
 use Rattle.trie_change.specs.Changes.{grows}
 use Rattle.trie_change.specs.FigureLaws.{has_size, size_is, hash_is}
 use Rattle.trie_change.specs.HandLaws.{fits_stay, set_at_stays, hand_held, given_back}
-use Rattle.trie_context.specs.MoveLaws.{at_most, one_at_most, rows_stay_on}
+use Rattle.trie_context.specs.MoveLaws.{at_most, at_none, one_at_most, counts_as_before, gained_none, rows_as_before, rows_stay_on}
 use Rattle.trie_change.specs.PairLaws.{on_err}
-use Rattle.trie_change.proofs.PairChanges.{both, changed_deep, none_moved, pair_parts, node_held, node_given, edge_stands, edge_moved}
+use Rattle.trie_change.proofs.PairChanges.{both, changed_deep, pair_parts, node_held, node_given, edge_stands, edge_moved}
 use Rattle.trie_change.proofs.pairs.change_many_pairs.Goals as goal
 
 pub changed_size-size-requires : goal.changed_size-size-requires
@@ -58,18 +59,10 @@ returns-then-size-eq0-clause-stands g c =
 pub returns-then-size-eq0-clause-held : goal.returns-then-size-eq0-clause-held
 returns-then-size-eq0-clause-held g c =
     let t = c.args.context.now in
-    let H = set_at t 2 c.args.old in
-    let B = set_of_entries trip_rest c.args.run.now in
-    let G = after (grows c.args.change) H B in
-    let sized : c.changed_size-size.result ≡ set.len G = c.changed_size-size.ensures ∙ size_is c.args.change H B c.requires.run.change c.pair_figures-size.result.0 (length c.args.run.now) c.pair_figures-size.ensures.size (order_once trip_rest c.args.run.now c.requires.run.order) in
-    let u = c.change_pair_position-2.new.context in
-    let kept = c.is_kept.ensures in
-    let made = both g.M.Mix.mixed t kept c.change_pair_position.new.context u c.args.change c.args.old c.requires.run.fits B c.in_ok-first.first c.in-Ok.second
-    c.in_ok-first.ensures.slices c.in_ok-first.ensures.held.moved c.in_ok-first.ensures.held.stay c.in-Ok.ensures.slices c.in-Ok.ensures.held.moved c.in-Ok.ensures.held.stay in
     record {
-      moved = none_moved g.M.Mix.mixed t kept u G c.in_ok-first.first c.in-Ok.second made (set.empty_of_len G (sym sized ∙ c.if-size-eq0.true));
-      counts = λ d r. omega (arith, c.in_ok-first.ensures.held.counts d r, c.in-Ok.ensures.held.counts d r, c.requires.some);
-      stay = rows_stay_on t c.change_pair_position.new.context u c.in_ok-first.ensures.held.stay c.in-Ok.ensures.held.stay;
+      moved = gained_none g.M.Mix.mixed t c.is_kept.ensures (at_depth 2 (option_leads None)) (at_none 2 (option_leads None) (λ r. refl));
+      counts = counts_as_before t (λ _ _. run_room c.args.run.now);
+      stay = rows_as_before t;
     }
 
 pub intern-requires-clause-form : goal.intern-requires-clause-form
@@ -163,11 +156,6 @@ returns-clause-held g c =
 
 pub returns-in-Err-clause-retained : goal.returns-in-Err-clause-retained
 returns-in-Err-clause-retained g c =
-    let still = set_at_stays g.M.Mix.mixed c.args.context.now c.change_pair_position.new.context c.is_kept.ensures c.in_ok-first.ensures.held.stay 2 c.args.old c.requires.run.fits in
-    omega (arith, c.change_pair_position.ensures.retained, c.change_pair_position-2.ensures.retained, ap set.len still)
-
-pub returns-then-size-eq0-clause-retained : goal.returns-then-size-eq0-clause-retained
-returns-then-size-eq0-clause-retained g c =
     let still = set_at_stays g.M.Mix.mixed c.args.context.now c.change_pair_position.new.context c.is_kept.ensures c.in_ok-first.ensures.held.stay 2 c.args.old c.requires.run.fits in
     omega (arith, c.change_pair_position.ensures.retained, c.change_pair_position-2.ensures.retained, ap set.len still)
 

@@ -1,15 +1,19 @@
-use Rattle.std.proofs.Common.{◌∙◌, ◌+◌, ℕ, sym, refl, length, arith}
+use Rattle.std.proofs.Common.{◌≡◌, ◌∙◌, ◌+◌, ℕ, sym, refl, length, arith}
+use Rattle.std.specs.FinSet as set
+use Rattle.hypertrie_model.specs.Changes.{after}
+use Rattle.trie_change.specs.After.{graph_room}
+use Rattle.trie_change.specs.Changes.{grows}
 use Rattle.trie_node.specs.Sets.{edges_in}
 use Rattle.trie_context.specs.Holds.{one_at, nothing}
-use Rattle.trie_context.specs.MoveLaws.{moved_as, moved_on, at_most, one_at_most, rows_stay_on}
+use Rattle.trie_context.specs.MoveLaws.{moved_as, moved_on, at_most, one_at_most, counts_as_before, gained_none, rows_as_before, rows_stay_on}
 use Rattle.trie_depth.specs.Tuples.{trip_tuple}
 use Rattle.trie_change.specs.Batches.{set_of_entries}
 use Rattle.trie_change.specs.Rooms.{row_set_at}
-use Rattle.trie_change.specs.FigureLaws.{has_size}
+use Rattle.trie_change.specs.FigureLaws.{has_size, size_is}
 use Rattle.trie_context.specs.Roots.{root_hold}
-use Rattle.trie_context.specs.declared.root.Root.TheVariants.{Many}
+use Rattle.trie_context.specs.declared.root.Root.TheVariants.{Empty, Many}
 use Rattle.trie_change.proofs.PositionLemmas.{still_held, all_given_back, stay_again, err_holds}
-use Rattle.trie_change.specs.PartLaws.{are_parts, none_is, no_edge, one_whole, whole_is, full_form, root_is}
+use Rattle.trie_change.specs.PartLaws.{are_parts, one_whole, whole_is, full_form, root_is}
 use Rattle.trie_change.proofs.triples.change_root.Goals as goal
 
 pub changed_size-size-requires : goal.changed_size-size-requires
@@ -18,18 +22,19 @@ changed_size-size-requires g c =
 
 pub returns-then-size-eq0-clause-set : goal.returns-then-size-eq0-clause-set
 returns-then-size-eq0-clause-set g c =
-    let parts = are_parts c.is_kept.ensures c.args.change c.args.old c.args.batch.now c.requires.batch.once c.requires.batch.change c.change_positions.new.context c.triple_figures-size.result.0 c.triple_figures-size.result.1 c.changed_size-size.result c.toggled_triples-hash.result c.in_ok-first.first c.in_ok-first.second c.in_ok-first.third
-    c.triple_figures-size.ensures.size c.triple_figures-size.ensures.hash c.changed_size-size.ensures c.toggled_triples-hash.ensures c.in_ok-first.ensures.first c.in_ok-first.ensures.second c.in_ok-first.ensures.third in
-    none_is c.change_positions.new.context parts c.if-size-eq0.true
+    let H = row_set_at c.args.context.now c.args.old in
+    let B = set_of_entries trip_tuple c.args.batch.now in
+    let G = after (grows c.args.change) H B in
+    let sized : c.changed_size-size.result ≡ set.len G = c.changed_size-size.ensures ∙ size_is c.args.change H B c.requires.batch.change c.triple_figures-size.result.0 (length c.args.batch.now) c.triple_figures-size.ensures.size c.requires.batch.once in
+    sym (set.empty_of_len G (sym sized ∙ c.if-size-eq0.true))
 
 pub returns-then-size-eq0-clause-held : goal.returns-then-size-eq0-clause-held
 returns-then-size-eq0-clause-held g c =
-    let parts = are_parts c.is_kept.ensures c.args.change c.args.old c.args.batch.now c.requires.batch.once c.requires.batch.change c.change_positions.new.context c.triple_figures-size.result.0 c.triple_figures-size.result.1 c.changed_size-size.result c.toggled_triples-hash.result c.in_ok-first.first c.in_ok-first.second c.in_ok-first.third
-    c.triple_figures-size.ensures.size c.triple_figures-size.ensures.hash c.changed_size-size.ensures c.toggled_triples-hash.ensures c.in_ok-first.ensures.first c.in_ok-first.ensures.second c.in_ok-first.ensures.third in
+    let t = c.args.context.now in
     record {
-      moved = moved_as c.in_ok-first.ensures.held.moved nothing nothing (λ d r. omega (arith, no_edge c.change_positions.new.context parts c.if-size-eq0.true d r));
-      counts = λ d r. omega (arith, c.in_ok-first.ensures.held.counts d r);
-      stay = c.in_ok-first.ensures.held.stay;
+      moved = gained_none g.M.Mix.mixed t c.is_kept.ensures (root_hold Empty) (λ d r. refl);
+      counts = counts_as_before t (λ _ _. graph_room c.args.batch.now);
+      stay = rows_as_before t;
     }
 
 pub lone_triple-triple-requires-clause-lone : goal.lone_triple-triple-requires-clause-lone

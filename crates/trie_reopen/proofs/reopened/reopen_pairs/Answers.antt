@@ -1,15 +1,17 @@
-use Rattle.std.proofs.Common.{rules, ◌≡◌, IfOk, ◌+◌, ◌≤◌, length, subst, sym, ap, ◌∙◌, arith, Some}
+use Rattle.std.proofs.Common.{rules, ◌≡◌, IfOk, ◌+◌, ◌≤◌, length, subst, sym, ap, ◌∙◌, refl, arith, None, Some}
 use Rattle.std.specs.Ordering.{nat_cmp}
 use Rattle.std.specs.FinSet as set
 use Rattle.hypertrie_model.specs.Changes.{after}
 use Rattle.hypertrie_model.specs.Slices.{slice}
 use Rattle.trie_depth.specs.Tuples.{pair_tuple}
+use Rattle.edge_map.specs.declared.edge.Edge.TheVariants.{Node as ToRow}
 use Rattle.trie_node.specs.declared.node.Node.{Node}
 use Rattle.trie_node.specs.Sets.{edges_of}
 use Rattle.trie_context.specs.Rows.{node_of, set_of}
 use Rattle.trie_context.specs.Holds.{one_at, at_depth}
-use Rattle.trie_context.specs.FitEdges.{StandsAt}
-use Rattle.change_log.specs.Laws.{grows_on}
+use Rattle.trie_context.specs.FitEdges.{StandsAt, option_leads}
+use Rattle.trie_context.specs.MoveLaws.{at_same}
+use Rattle.change_log.specs.Laws.{grows_on, logged_as}
 use Rattle.change_log.specs.Log.{Grows, edge_hold}
 use Rattle.change_log.specs.Logged.{IsLogged}
 use Rattle.trie_change.specs.After.{run_room}
@@ -17,10 +19,11 @@ use Rattle.trie_change.specs.Batches.{set_of_entries, trip_rest}
 use Rattle.trie_change.specs.BatchLaws.{order_once}
 use Rattle.trie_change.specs.Changes.{grows}
 use Rattle.trie_change.specs.FigureLaws.{has_size, size_is, hash_is}
+use Rattle.trie_change.specs.HandLaws.{leads_once}
 use Rattle.trie_change.specs.PairLaws.{changes_of, if_ok, on_err}
 use Rattle.trie_reopen.proofs.Unmoved.{err_then}
 use Rattle.trie_reopen.proofs.OwnMaps.{slices_fit}
-use Rattle.trie_reopen.proofs.PairTurns.{Maps, starts, changes_one, first_held, parts_are, nothing_left, node_held, stored}
+use Rattle.trie_reopen.proofs.PairTurns.{Maps, starts, changes_one, first_held, parts_are, node_held, stored}
 use Rattle.trie_reopen.specs.Shared.{HoldsRiseBy}
 use Rattle.trie_reopen.proofs.reopened.reopen_pairs.Given as given
 use Rattle.trie_reopen.proofs.reopened.reopen_pairs.Goals as goal
@@ -193,21 +196,9 @@ returns-then-size-eq0-clause-stands g c =
 pub returns-then-size-eq0-clause-logged : goal.returns-then-size-eq0-clause-logged
 returns-then-size-eq0-clause-logged g c =
     let t0 = c.args.context.now in
-    let l0 = c.args.log.now.steps in
     let row = c.args.row in
-    let H = set_of t0 2 row in
-    let B = set_of_entries trip_rest c.args.run.now in
-    let n = c.deref.result.now in
-    let many : length n ≡ length c.args.run.now = ap length c.deref.ensures.value ∙ c.in_ok-by_first.ensures.len in
-    let m = c.deref-2.result.now in
-    let more : length m ≡ length c.args.run.now = ap length c.deref-2.ensures.value ∙ c.in_ok-by_second.ensures.len in
-    let t3 = c.replace_pair_map-2.new.context in
-    let l3 = c.replace_pair_map-2.new.log.steps in
-    let G = after (grows c.args.change) H B in
-    let s3 = two_done g (goal.at.returns-then-size-eq0-clause-logged g c).In_ok-two in
-    let once = order_once trip_rest c.args.run.now c.requires.run.order in
-    let sized : c.changed_size-size.result ≡ set.len G = c.changed_size-size.ensures ∙ size_is c.args.change H B c.requires.run.change c.pair_figures-size.result.0 (length c.args.run.now) c.pair_figures-size.ensures.size once in
-    nothing_left g.M.Mix.mixed t0 l0 row t3 l3 G c.in_ok-one.one c.in_ok-two.two (length n + length m) s3 (set.empty_of_len G (sym sized ∙ c.if-size-eq0.true)) (run_room c.args.run.now) (omega (arith, many, more))
+    logged_as g.M.Mix.mixed t0 t0 c.args.log.now.steps c.leave_pairs.new.log.steps (edge_hold 2 None) (edge_hold 2 (Some (ToRow row))) 0 c.in_ok-leave_pairs.ensures.logged
+    (edge_hold 2 None) (at_depth 2 (one_at row)) (run_room c.args.run.now) (λ e r. refl) (at_same 2 (option_leads (Some (ToRow row))) (one_at row) (leads_once row)) (omega arith)
 
 pub store_pairs-requires-clause-form : goal.store_pairs-requires-clause-form
 store_pairs-requires-clause-form g c =
@@ -320,10 +311,6 @@ returns-clause-grew g c =
     let s3 = two_done g (goal.at.returns-clause-grew g c).In_ok-two in
     err_then (Grows g.M.Mix.mixed t3 c.store_pairs.new.context l3 c.store_pairs.new.log.steps) (Grows g.M.Mix.mixed t0 c.store_pairs.new.context l0 c.store_pairs.new.log.steps) c.store_pairs.result
     (grows_on g.M.Mix.mixed t0 t3 c.store_pairs.new.context l0 l3 c.store_pairs.new.log.steps s3.logged.grew) c.store_pairs.ensures.grew
-
-pub returns-then-size-eq0-clause-risen : goal.returns-then-size-eq0-clause-risen
-returns-then-size-eq0-clause-risen g c d r deep =
-    omega (arith, c.open_pairs.ensures.risen d r deep, c.in_ok-one.ensures.risen d r deep, c.in_ok-two.ensures.risen d r deep)
 
 pub returns-clause-risen : goal.returns-clause-risen
 returns-clause-risen g c =

@@ -234,7 +234,10 @@ fn inside<M: Mix, W: Ledger, V: Ledger, U: Ledger>(
         let answer = batch.carry_out(alloc, store, counts);
         return (Progress::Outside, Some(answer));
     }
-    (Progress::Inside(block.with_line(store, line, scratch)), None)
+    (
+        Progress::Inside(block.with_line(store, line, scratch)),
+        None,
+    )
 }
 
 // Takes a line of a query.

@@ -58,7 +58,10 @@ impl TermSlot {
             TermSlot::Vacant(_) => None,
             TermSlot::Iri(text) => Some(TermRef::Iri(text.as_str())),
             TermSlot::Blank(label) => Some(TermRef::Blank(label.as_str())),
-            TermSlot::Plain(form) => Some(TermRef::Literal(form.as_str(), KindRef::Typed(XSD_STRING))),
+            TermSlot::Plain(form) => Some(TermRef::Literal(
+                form.as_str(),
+                KindRef::Typed(XSD_STRING),
+            )),
             TermSlot::Typed(parting, text) => {
                 let (form, datatype) = parted(*parting, text);
                 Some(TermRef::Literal(form, KindRef::Typed(datatype)))

@@ -28,7 +28,7 @@ use Rattle.trie_context.specs.Rows.{row_of, row_set, node_set, set_of}
 use Rattle.trie_context.specs.Kept.{IsNode, AreKept}
 use Rattle.trie_context.specs.RowLaws.{row_there}
 use Rattle.trie_context.specs.DepthLaws.{node_deep, set_deep}
-use Rattle.trie_view.specs.declared.place.Place.TheVariants.{Triple, Triples}
+use Rattle.trie_view.specs.declared.location.Location.TheVariants.{Triple, Triples}
 use Rattle.trie_view.specs.Places.{HasIds, IsSub, IsRootThere, edge_at}
 use Rattle.trie_view.specs.EdgesAt.{triples_edge}
 use Rattle.trie_view.specs.PlaceLaws.{single_ids}

@@ -24,8 +24,8 @@ use Rattle.trie_node.specs.Forms.{IsPairEdge, StandsFor}
 use Rattle.trie_context.specs.declared.tables.Tables.{Tables}
 use Rattle.trie_context.specs.Rows.{row_of, set_of}
 use Rattle.trie_context.specs.EdgeLaws.{filled_there}
-use Rattle.trie_view.specs.declared.place.Place.{Place}
-use Rattle.trie_view.specs.declared.place.Place.TheVariants.{Triple, Triples, Pair as OnePair, Pairs, Key, Keys, There}
+use Rattle.trie_view.specs.declared.location.Location.{Location}
+use Rattle.trie_view.specs.declared.location.Location.TheVariants.{Triple, Triples, Pair as OnePair, Pairs, Key, Keys, There}
 use Rattle.trie_view.specs.declared.place.KeysAt.{KeysAt}
 use Rattle.trie_view.specs.declared.place.KeysAt.TheVariants.{One, Of}
 use Rattle.trie_view.specs.Places.{place_depth, place_set, IsSub, IsPlaceOf, IsPairsOf, HasKeysAt, AreKeysAt, edge_at}
@@ -33,15 +33,15 @@ use Rattle.trie_view.specs.EdgesAt.{keys_at_prop, single_keys, pairs_edge, tripl
 use Rattle.trie_view.specs.PlaceLaws.{place_prop, triple_slice, triple_other, pair_slice, pair_other, key_slice, key_other, triples_none, triples_no_key, triples_row, pairs_none, pairs_row, triples_slice, pairs_slice, pairs_key, keys_full, keys_slice, keys_other}
 
 -- this is the place of the slice by the key at the position
-abbrev pub IsSliced : Tables → ℕ → ℕ → Option Place → Place → Type 0
+abbrev pub IsSliced : Tables → ℕ → ℕ → Option Location → Location → Type 0
 IsSliced t i k o place = IsPlaceOf t (place_depth place - 1) (slice nat_cmp (place_set t place) i k) o
 
-module _ (t : Tables) (place : Place) (known : ∥ IsSub t place ∥₁) (i : ℕ) (within : i < place_depth place) where
-  module _ (p : Place) (is : place ≡ p) where
+module _ (t : Tables) (place : Location) (known : ∥ IsSub t place ∥₁) (i : ℕ) (within : i < place_depth place) where
+  module _ (p : Location) (is : place ≡ p) where
     known_at : (P : Type 0) → IsProp P → (IsSub t p → i < place_depth p → P) → P
     known_at P prop made = ∥∥₁_elim known prop (λ s. made (subst (IsSub t) is s) (subst (λ q. i < place_depth q) is within))
 
-    sliced_at : (k : ℕ) (o : Option Place) → (IsSub t p → i < place_depth p → IsSliced t i k o p) → IsSliced t i k o place
+    sliced_at : (k : ℕ) (o : Option Location) → (IsSub t p → i < place_depth p → IsSliced t i k o p) → IsSliced t i k o place
     sliced_at k o made = subst (IsSliced t i k o) (sym is) (known_at (IsSliced t i k o p) (place_prop t _ _ o) made)
 
     keys_here : (ks : KeysAt) → (IsSub t p → i < place_depth p → AreKeysAt (place_set t p) i ks) → AreKeysAt (place_set t place) i ks
@@ -69,7 +69,7 @@ module _ (t : Tables) (place : Place) (known : ∥ IsSub t place ∥₁) (i : �
     key_lacks x is other = sliced_at (Key x) is k None (λ s lt. key_other t x i k lt other)
 
     module _ (n : Bor Node) (is : place ≡ Triples n) (o : Option Edge) (under : o ≡ edge_at n.now i k) where
-      pub triples_lack : o ≡ None → (q : Option Place) → q ≡ None → IsSliced t i k q place
+      pub triples_lack : o ≡ None → (q : Option Location) → q ≡ None → IsSliced t i k q place
       triples_lack none q q_is = subst (λ z. IsSliced t i k z place) (sym q_is) (sliced_at (Triples n) is k None (λ s lt. triples_none t n.now i k s.mixed s.formed lt (sym under ∙ none)))
 
       pub triples_keyless : (x : Id) → o ≡ Some (ToKey x) → ⊥
@@ -79,11 +79,11 @@ module _ (t : Tables) (place : Place) (known : ∥ IsSub t place ∥₁) (i : �
         pub triples_lead : IsSome (row_of t 2 r)
         triples_lead = known_at (Triples n) is (IsSome (row_of t 2 r)) (Coded-set coded_bool _ _) (λ s lt. filled_there t 2 r (triples_row t n.now i k r s.mixed s.formed lt (sym under ∙ at)).0)
 
-        pub triples_given : (p : Place) → IfSome (row_of t 2 r) (λ row. IsPairsOf row.node p) → IsSliced t i k (Some p) place
+        pub triples_given : (p : Location) → IfSome (row_of t 2 r) (λ row. IsPairsOf row.node p) → IsSliced t i k (Some p) place
         triples_given p are = sliced_at (Triples n) is k (Some p) (λ s lt. triples_slice t (Triples n) n.now s (λ _. place_set t (Triples n)) i k r (triples_row t n.now i k r s.mixed s.formed lt (sym under ∙ at)) p are)
 
     module _ (n : Bor Node) (is : place ≡ Pairs n) (o : Option Edge) (under : o ≡ edge_at n.now i k) where
-      pub pairs_lack : o ≡ None → (q : Option Place) → q ≡ None → IsSliced t i k q place
+      pub pairs_lack : o ≡ None → (q : Option Location) → q ≡ None → IsSliced t i k q place
       pairs_lack none q q_is = subst (λ z. IsSliced t i k z place) (sym q_is) (sliced_at (Pairs n) is k None (λ s lt. pairs_none t n.now i k s.mixed s.formed.0 s.formed.1 lt (sym under ∙ none)))
 
       pub pairs_keyed : (x : Id) → o ≡ Some (ToKey x) → IsSliced t i k (Some (Key x)) place
@@ -110,7 +110,7 @@ module _ (t : Tables) (place : Place) (known : ∥ IsSub t place ∥₁) (i : �
       only_first : (j : ℕ) → j < 1 → j ≡ 0
       only_first j lt = omega arith
 
-      pub keys_lack : o ≡ None → (q : Option Place) → q ≡ None → IsSliced t i k q place
+      pub keys_lack : o ≡ None → (q : Option Location) → q ≡ None → IsSliced t i k q place
       keys_lack none q q_is = subst (λ z. IsSliced t i k z place) (sym q_is) (sliced_at (Keys m) is k None (λ s lt. subst (λ j. IsSliced t j k None (Keys m)) (sym (only_first i lt)) (keys_other t m.now k (sym found ∙ none))))
 
       pub keys_given : (e : Edge) → o ≡ Some e → IsSliced t i k (Some There) place

@@ -38,22 +38,22 @@ use Rattle.trie_context.specs.Kept.{IsNode, AreKept}
 use Rattle.trie_context.specs.RowLaws.{row_there}
 use Rattle.trie_context.specs.EdgeLaws.{filled_there, edge_there}
 use Rattle.trie_context.specs.DepthLaws.{single_deep, union_deep, node_deep, set_deep}
-use Rattle.trie_view.specs.declared.place.Place.{Place}
-use Rattle.trie_view.specs.declared.place.Place.TheVariants.{Triple, Triples, Pair as OnePair, Pairs, Key, Keys, There}
+use Rattle.trie_view.specs.declared.location.Location.{Location}
+use Rattle.trie_view.specs.declared.location.Location.TheVariants.{Triple, Triples, Pair as OnePair, Pairs, Key, Keys, There}
 use Rattle.trie_view.specs.Places.{place_depth, place_set, IsFull, IsFormed, HasIds, IsSub, IsPlaceOf, IsPairsOf, edge_at}
 use Rattle.trie_view.specs.EdgesAt.{sets_prop, single_slice, single_other, single_filled, triples_edge, pairs_edge, map_keys}
 
 pub numbers_prop : (m n : ℕ) → IsProp (m ≡ n)
 numbers_prop m n = Coded-set coded_ℕ m n
 
-pub place_prop : (t : Tables) (d : ℕ) (S : IdSet) (o : Option Place) → IsProp (IsPlaceOf t d S o)
+pub place_prop : (t : Tables) (d : ℕ) (S : IdSet) (o : Option Location) → IsProp (IsPlaceOf t d S o)
 place_prop t d S None = sets_prop S (empty nat_cmp)
 place_prop t d S (Some p) = hlevel (sets_prop, numbers_prop)
 
 ids_prop : (u : List ℕ) → IsProp (IsIdTuple u)
 ids_prop u = hlevel le_prop
 
-pub depth_high : (p : Place) → place_depth p ≤ 3
+pub depth_high : (p : Location) → place_depth p ≤ 3
 depth_high (Triple e) = omega arith
 depth_high (Triples n) = omega arith
 depth_high (OnePair e) = omega arith
@@ -79,7 +79,7 @@ pub single_ids : (t : List ℕ) → IsIdTuple t → HasIds (single nat_cmp t)
 single_ids t small u there = subst IsIdTuple (sym (only_member total exact t u there)) small
 
 module _ (t : Tables) where
-  pub place_deep : (p : Place) → IsSub t p → HasDepth (place_depth p) (place_set t p)
+  pub place_deep : (p : Location) → IsSub t p → HasDepth (place_depth p) (place_set t p)
   place_deep (Triple e) s = single_deep (trip_tuple e)
   place_deep (Triples n) s = node_deep s.mixed 2 (set_of t 2) (set_deep s.mixed t s.kept 2) n.now s.formed
   place_deep (OnePair e) s = single_deep (pair_tuple e)
@@ -89,14 +89,14 @@ module _ (t : Tables) where
   place_deep There s = single_deep []
 
   -- the same of a slice, of which the fact alone is known
-  pub known_deep : (p : Place) → ∥ IsSub t p ∥₁ → HasDepth (place_depth p) (place_set t p)
+  pub known_deep : (p : Location) → ∥ IsSub t p ∥₁ → HasDepth (place_depth p) (place_set t p)
   known_deep p known u there = ∥∥₁_elim known (numbers_prop (length u) (place_depth p)) (λ s. place_deep p s u there)
 
-  pub known_ids : (p : Place) → ∥ IsSub t p ∥₁ → HasIds (place_set t p)
+  pub known_ids : (p : Location) → ∥ IsSub t p ∥₁ → HasIds (place_set t p)
   known_ids p known u there = ∥∥₁_elim known (ids_prop u) (λ s. s.small u there)
 
   -- a place that stands for a slice
-  placed : (place : Place) → IsSub t place → (i k d : ℕ) (p : Place) → slice nat_cmp (place_set t place) i k ≢ empty nat_cmp → place_set t p ≡ slice nat_cmp (place_set t place) i k → place_depth p ≡ d
+  placed : (place : Location) → IsSub t place → (i k d : ℕ) (p : Location) → slice nat_cmp (place_set t place) i k ≢ empty nat_cmp → place_set t p ≡ slice nat_cmp (place_set t place) i k → place_depth p ≡ d
       → ((mixed : ℕ → ℕ → ℕ → ℕ → ℕ) → AreKept mixed t → IsFormed mixed t p) → IsPlaceOf t d (slice nat_cmp (place_set t place) i k) (Some p)
   placed place s i k d p some is deep formed = (
     some,
@@ -174,7 +174,7 @@ module _ (t : Tables) where
 
   -- the place of the pairs of a row
 
-  pairs_place : (mixed : ℕ → ℕ → ℕ → ℕ → ℕ) → AreKept mixed t → (r : ℕ) (row : Row Node) → row_of t 2 r ≡ Some row → (p : Place) → IsPairsOf row.node p → (place_set t p ≡ set_of t 2 r) × (place_depth p ≡ 2) × (IsFormed mixed t p)
+  pairs_place : (mixed : ℕ → ℕ → ℕ → ℕ → ℕ) → AreKept mixed t → (r : ℕ) (row : Row Node) → row_of t 2 r ≡ Some row → (p : Location) → IsPairsOf row.node p → (place_set t p ≡ set_of t 2 r) × (place_depth p ≡ 2) × (IsFormed mixed t p)
   pairs_place mixed kept r row at (Triple e) are = absurd are
   pairs_place mixed kept r row at (Triples m) are = absurd are
   pairs_place mixed kept r row at (OnePair e) are = (sym (node_is 1 r row at ∙ ap (set_over (set_of t 1)) are), refl, tt)
@@ -187,7 +187,7 @@ module _ (t : Tables) where
   pairs_place mixed kept r row at (Keys m) are = absurd are
   pairs_place mixed kept r row at There are = absurd are
 
-  pub triples_slice : (place : Place) (n : Node) → IsSub t place → place_set t place ≡ set_over (set_of t 2) n → (i k r : ℕ) → (1 ≤ set.len (set_of t 2 r)) × (set_of t 2 r ≡ slice nat_cmp (set_over (set_of t 2) n) i k) → (p : Place) → IfSome (row_of t 2 r) (λ row. IsPairsOf row.node p)
+  pub triples_slice : (place : Location) (n : Node) → IsSub t place → place_set t place ≡ set_over (set_of t 2) n → (i k r : ℕ) → (1 ≤ set.len (set_of t 2 r)) × (set_of t 2 r ≡ slice nat_cmp (set_over (set_of t 2) n) i k) → (p : Location) → IfSome (row_of t 2 r) (λ row. IsPairsOf row.node p)
       → IsPlaceOf t 2 (slice nat_cmp (place_set t place) i k) (Some p)
   triples_slice place n s same i k r leads p are =
       let there = row_there (row_of t 2 r) (filled_there t 2 r leads.0) in
@@ -213,7 +213,7 @@ module _ (t : Tables) where
         by (Single p) f = absurd f
         by (Full s h a b c) f = refl
 
-  pub pairs_slice : (place : Place) (n : Node) → IsSub t place → place_set t place ≡ set_over (set_of t 1) n → (i k r : ℕ) → (2 ≤ set.len (set_of t 1 r)) × (set_of t 1 r ≡ slice nat_cmp (set_over (set_of t 1) n) i k) → (p : Place) (m : Edges) → place_set t p ≡ union_over m (λ _. single nat_cmp []) → place_depth p ≡ 1
+  pub pairs_slice : (place : Location) (n : Node) → IsSub t place → place_set t place ≡ set_over (set_of t 1) n → (i k r : ℕ) → (2 ≤ set.len (set_of t 1 r)) × (set_of t 1 r ≡ slice nat_cmp (set_over (set_of t 1) n) i k) → (p : Location) (m : Edges) → place_set t p ≡ union_over m (λ _. single nat_cmp []) → place_depth p ≡ 1
       → ((mixed : ℕ → ℕ → ℕ → ℕ → ℕ) → IsFormed mixed t p) → IfSome (row_of t 1 r) (λ row. map_at row.node 0 ≡ Some m) → IsPlaceOf t 1 (slice nat_cmp (place_set t place) i k) (Some p)
   pairs_slice place n s same i k r leads p m is deep formed at =
       let there = row_there (row_of t 1 r) (filled_there t 1 r (omega (arith, leads.0))) in
@@ -222,14 +222,14 @@ module _ (t : Tables) where
       let keys = node_is 0 r there.0 there.1 ∙ keys_set s.mixed r there.0.node ((s.kept 0).formed r there.0 there.1) m here in
       placed place s i k 1 p (filled_len _ (set_of t 1 r) (omega (arith, leads.0)) whole) (is ∙ sym keys ∙ whole) deep (λ mixed kept. formed mixed)
 
-  pub pairs_key : (place : Place) (n : Node) → IsSub t place → place_set t place ≡ set_over (set_of t 1) n → (i k : ℕ) (x : Id) → StandsFor (IsPairEdge (set_of t 1)) (set_of t 1) (slice nat_cmp (set_over (set_of t 1) n) i k) (Some (ToKey x)) → IsPlaceOf t 1 (slice nat_cmp (place_set t place) i k) (Some (Key x))
+  pub pairs_key : (place : Location) (n : Node) → IsSub t place → place_set t place ≡ set_over (set_of t 1) n → (i k : ℕ) (x : Id) → StandsFor (IsPairEdge (set_of t 1)) (set_of t 1) (slice nat_cmp (set_over (set_of t 1) n) i k) (Some (ToKey x)) → IsPlaceOf t 1 (slice nat_cmp (place_set t place) i k) (Some (Key x))
   pairs_key place n s same i k x stands =
       let whole : single nat_cmp (id_tuple x) ≡ slice nat_cmp (place_set t place) i k = stands.1 ∙ ap (λ H. slice nat_cmp H i k) (sym same) in
       placed place s i k 1 (Key x) (filled_by _ _ (sym whole)) whole refl (λ _ _. tt)
 
   -- the keys of a map
 
-  pub keys_slice : (place : Place) (m : Edges) → IsSub t place → place_set t place ≡ union_over m (λ _. single nat_cmp []) → (k : ℕ) (e : Edge) → map.get m k ≡ Some e → IsPlaceOf t 0 (slice nat_cmp (place_set t place) 0 k) (Some There)
+  pub keys_slice : (place : Location) (m : Edges) → IsSub t place → place_set t place ≡ union_over m (λ _. single nat_cmp []) → (k : ℕ) (e : Edge) → map.get m k ≡ Some e → IsPlaceOf t 0 (slice nat_cmp (place_set t place) 0 k) (Some There)
   keys_slice place m s same k e at =
       let whole : slice nat_cmp (place_set t place) 0 k ≡ single nat_cmp [] = ap (λ H. slice nat_cmp H 0 k) same ∙ slice-union_over total exact m (λ _. single nat_cmp []) k ∙ ap (set_under nat_cmp (λ _. single nat_cmp [])) at in
       placed place s 0 k 0 There (filled_by _ _ whole) (sym whole) refl (λ _ _. tt)

@@ -18,13 +18,13 @@ use Rattle.trie_context.specs.declared.root.Root.TheVariants.{Empty, One as OneT
 use Rattle.trie_context.specs.declared.tables.Tables.{Tables}
 use Rattle.trie_context.specs.Rows.{row_of, set_of}
 use Rattle.trie_context.specs.Kept.{IsNode, AreKept}
-use Rattle.trie_view.specs.declared.place.Place.{Place}
-use Rattle.trie_view.specs.declared.place.Place.TheVariants.{Triple, Triples, Pair, Pairs, Key, Keys, There}
+use Rattle.trie_view.specs.declared.location.Location.{Location}
+use Rattle.trie_view.specs.declared.location.Location.TheVariants.{Triple, Triples, Pair, Pairs, Key, Keys, There}
 use Rattle.trie_view.specs.declared.place.KeysAt.{KeysAt}
 use Rattle.trie_view.specs.declared.place.KeysAt.TheVariants.{One, Of}
 
 -- how many keys each tuple has
-abbrev pub place_depth : Place → ℕ
+abbrev pub place_depth : Location → ℕ
 place_depth (Triple e) = 3
 place_depth (Triples n) = 3
 place_depth (Pair e) = 2
@@ -34,7 +34,7 @@ place_depth (Keys m) = 1
 place_depth There = 0
 
 -- the set that a place stands for
-abbrev pub place_set : Tables → Place → IdSet
+abbrev pub place_set : Tables → Location → IdSet
 place_set t (Triple e) = single nat_cmp (trip_tuple e)
 place_set t (Triples n) = set_over (set_of t 2) n.now
 place_set t (Pair e) = single nat_cmp (pair_tuple e)
@@ -49,7 +49,7 @@ IsFull (Single p) = ⊥
 IsFull (Full s h a b c) = Unit {0}
 
 -- the node of the place is in the form of its depth
-abbrev pub IsFormed : (ℕ → ℕ → ℕ → ℕ → ℕ) → Tables → Place → Type 0
+abbrev pub IsFormed : (ℕ → ℕ → ℕ → ℕ → ℕ) → Tables → Location → Type 0
 IsFormed mixed t (Triple e) = Unit {0}
 IsFormed mixed t (Triples n) = IsNode mixed 3 (set_of t 2) n.now
 IsFormed mixed t (Pair e) = Unit {0}
@@ -67,14 +67,14 @@ abbrev pub AreKeptByAMix : Tables → Type 0
 AreKeptByAMix t = ∥ ((mixed : ℕ → ℕ → ℕ → ℕ → ℕ) × AreKept mixed t) ∥₁
 
 -- the place is one of kept tables
-pub record IsSub (t : Tables) (place : Place) : Type 0 where
+pub record IsSub (t : Tables) (place : Location) : Type 0 where
   pub mixed : ℕ → ℕ → ℕ → ℕ → ℕ
   pub kept : AreKept mixed t
   pub formed : IsFormed mixed t place
   pub small : HasIds (place_set t place)
 
 -- no place where the set is empty, and else one of this depth that stands for it
-abbrev pub IsPlaceOf : Tables → ℕ → IdSet → Option Place → Type 0
+abbrev pub IsPlaceOf : Tables → ℕ → IdSet → Option Location → Type 0
 IsPlaceOf t d S None = S ≡ empty nat_cmp
 IsPlaceOf t d S (Some p) = (S ≢ empty nat_cmp) × (place_set t p ≡ S) × (place_depth p ≡ d) × ∥ IsSub t p ∥₁
 
@@ -101,7 +101,7 @@ abbrev pub edge_at : Node → ℕ → ℕ → Option Edge
 edge_at n i k = found (map_at n i) k
 
 -- the place of the pairs that a node of depth two stands for
-abbrev pub IsPairsOf : Node → Place → Type 0
+abbrev pub IsPairsOf : Node → Location → Type 0
 IsPairsOf n (Triple e) = ⊥
 IsPairsOf n (Triples m) = ⊥
 IsPairsOf n (Pair e) = n ≡ Single e

@@ -2,8 +2,8 @@
 //! `specs/Places.antt` says which set a place stands for and what is known of it.
 #![tactic(auto)]
 
+mod location;
 mod operand;
-mod place;
 mod sub;
 
 pub use sub::Sub;

@@ -13,7 +13,7 @@ ghost use Rattle.trie_context.specs.Rows.{row_of};
 ghost use Rattle.trie_context.specs.Roots.{root_set};
 ghost use Rattle.trie_view.specs.Places.{AreKeptByAMix, IsSub, IsPlaceOf, IsPairsOf, IsRootThere, AreKeysAt, edge_at};
 
-use crate::place::{KeysAt, Place};
+use crate::location::{KeysAt, Location};
 use edge_map::{Edge, EdgeMap};
 use slice_cases::order;
 use std::sync::ledger::Ledger;
@@ -25,7 +25,7 @@ use trie_node::Node;
 #[derive(Clone, Copy)]
 pub struct Sub<'a> {
     tables: &'a Tables,
-    place: Place<'a>,
+    place: Location<'a>,
     ghost known: { ∥ IsSub tables.now place ∥₁ },
 }
 
@@ -46,7 +46,7 @@ impl<'a> Sub<'a> {
                 ids_of(*triple);
                 Some(Sub {
                     tables,
-                    place: Place::Triple(*triple),
+                    place: Location::Triple(*triple),
                 })
             }
             Root::Many(held) => {
@@ -54,7 +54,7 @@ impl<'a> Sub<'a> {
                 keys_are_ids(node);
                 Some(Sub {
                     tables,
-                    place: Place::Triples(node),
+                    place: Location::Triples(node),
                 })
             }
         }
@@ -65,10 +65,10 @@ impl<'a> Sub<'a> {
         ensures { result ≡ sub_depth self.entry }
     {
         match self.place {
-            Place::Triple(_) | Place::Triples(_) => 3,
-            Place::Pair(_) | Place::Pairs(_) => 2,
-            Place::Key(_) | Place::Keys(_) => 1,
-            Place::There => 0,
+            Location::Triple(_) | Location::Triples(_) => 3,
+            Location::Pair(_) | Location::Pairs(_) => 2,
+            Location::Key(_) | Location::Keys(_) => 1,
+            Location::There => 0,
         }
     }
 
@@ -85,19 +85,19 @@ impl<'a> Sub<'a> {
         ensures { AreKeysAt (sub_set self.entry) position result }
     {
         match self.place {
-            Place::Triple(triple) => KeysAt::One(L3::key(triple, position)),
-            Place::Triples(node) => match node.map(position) {
+            Location::Triple(triple) => KeysAt::One(L3::key(triple, position)),
+            Location::Triples(node) => match node.map(position) {
                 Some(edges) => KeysAt::Of(edges),
                 None => unreachable!(),
             },
-            Place::Pair(pair) => KeysAt::One(L2::key(pair, position)),
-            Place::Pairs(node) => match node.map(position) {
+            Location::Pair(pair) => KeysAt::One(L2::key(pair, position)),
+            Location::Pairs(node) => match node.map(position) {
                 Some(edges) => KeysAt::Of(edges),
                 None => unreachable!(),
             },
-            Place::Key(key) => KeysAt::One(key),
-            Place::Keys(edges) => KeysAt::Of(edges),
-            Place::There => unreachable!(),
+            Location::Key(key) => KeysAt::One(key),
+            Location::Keys(edges) => KeysAt::Of(edges),
+            Location::There => unreachable!(),
         }
     }
 
@@ -107,7 +107,7 @@ impl<'a> Sub<'a> {
         position: usize,
         key: Id,
         reads: &mut Steps<W>,
-    ) -> Option<Place<'a>>
+    ) -> Option<Location<'a>>
         requires within { position < sub_depth self }
         ensures is { IsPlaceOf self.entry.tables.now (sub_depth self.entry - 1) (slice_by self.entry position key.0) result }
         ensures ticks { reads.old + 1 ≤ reads.new }
@@ -115,43 +115,43 @@ impl<'a> Sub<'a> {
     {
         reads.tick();
         match self.place {
-            Place::Triple(triple) => {
+            Location::Triple(triple) => {
                 if L3::key(triple, position).0 != key.0 {
                     return None;
                 }
-                Some(Place::Pair(L3::without(triple, position)))
+                Some(Location::Pair(L3::without(triple, position)))
             }
-            Place::Triples(node) => match under(node, position, key)? {
+            Location::Triples(node) => match under(node, position, key)? {
                 Edge::Key(_) => unreachable!(),
                 Edge::Node(row) => {
                     reads.tick();
                     Some(pairs_of(self.tables, row))
                 }
             },
-            Place::Pair(pair) => {
+            Location::Pair(pair) => {
                 if L2::key(pair, position).0 != key.0 {
                     return None;
                 }
-                Some(Place::Key(L2::without(pair, position)))
+                Some(Location::Key(L2::without(pair, position)))
             }
-            Place::Pairs(node) => match under(node, position, key)? {
-                Edge::Key(other) => Some(Place::Key(other)),
+            Location::Pairs(node) => match under(node, position, key)? {
+                Edge::Key(other) => Some(Location::Key(other)),
                 Edge::Node(row) => {
                     reads.tick();
-                    Some(Place::Keys(keys_of(self.tables, row)))
+                    Some(Location::Keys(keys_of(self.tables, row)))
                 }
             },
-            Place::Key(only) => {
+            Location::Key(only) => {
                 if only.0 != key.0 {
                     return None;
                 }
-                Some(Place::There)
+                Some(Location::There)
             }
-            Place::Keys(edges) => {
+            Location::Keys(edges) => {
                 edges.get(key)?;
-                Some(Place::There)
+                Some(Location::There)
             }
-            Place::There => unreachable!(),
+            Location::There => unreachable!(),
         }
     }
 
@@ -275,14 +275,14 @@ fn under(node: &Node, position: usize, key: Id) -> Option<Edge>
 }
 
 /// The pairs of a row of depth two.
-fn pairs_of<'a>(tables: &'a Tables, row: usize) -> Place<'a>
+fn pairs_of<'a>(tables: &'a Tables, row: usize) -> Location<'a>
     requires { IsSome (row_of tables.now 2 row) }
     ensures { IfSome (row_of tables.now 2 row) (λ r. IsPairsOf r.node result) }
 {
     let node = tables.two.node(row);
     match node {
-        Node::Single(pair) => Place::Pair(*pair),
-        Node::Full { .. } => Place::Pairs(node),
+        Node::Single(pair) => Location::Pair(*pair),
+        Node::Full { .. } => Location::Pairs(node),
     }
 }
 

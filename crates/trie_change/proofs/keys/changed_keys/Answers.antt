@@ -18,5 +18,5 @@ returns g c =
     let made = c.deref.ensures.value ∙ c.in_ok-changes.ensures in
     let S = set_at c.args.context.now 1 c.args.old in
     IfOk-weaker c.keys_with.result _ _ (λ m old. subst (AreKeys (after (grows c.args.change) S (set_of_entries pair_rest c.args.run.now))) (sym old.2)
-        (subst (λ cs. AreKeys (after (grows c.args.change) S (set_of_entries pair_rest c.args.run.now)) (changed old.0 cs)) (sym made) (keys_after c.args.change S old.0 c.args.run.now old.1)))
+    (subst (λ cs. AreKeys (after (grows c.args.change) S (set_of_entries pair_rest c.args.run.now)) (changed old.0 cs)) (sym made) (keys_after c.args.change S old.0 c.args.run.now old.1)))
     c.keys_with.ensures

@@ -54,8 +54,8 @@ returns-in-Some-clause-logged g c =
     let root = c.args.root.now in
     let few : length batch ≤ 536870912 = omega (arith, c.requires.size, c.requires.once, len-union_parts total exact (root_set t root) (set_of_entries trip_tuple batch)) in
     IfOk-weaker c.reopen_triples.result _ _ (λ new l.
-        logged_as g.M.Mix.mixed t c.reopen_triples.new.context c.args.log.now.steps c.reopen_triples.new.log.steps (root_hold new) (at_depth 3 (one_at row)) (graph_room batch) l
-        (root_hold new) (root_hold root) (2 ^ 65) (λ d r. refl) (λ d r. ap (λ q. root_hold q d r) (sym c.in-Some.ensures.there)) (omega (arith, few)))
+    logged_as g.M.Mix.mixed t c.reopen_triples.new.context c.args.log.now.steps c.reopen_triples.new.log.steps (root_hold new) (at_depth 3 (one_at row)) (graph_room batch) l
+    (root_hold new) (root_hold root) (2 ^ 65) (λ d r. refl) (λ d r. ap (λ q. root_hold q d r) (sym c.in-Some.ensures.there)) (omega (arith, few)))
     c.reopen_triples.ensures.logged
 
 pub returns-in-Some-clause-retained : goal.returns-in-Some-clause-retained

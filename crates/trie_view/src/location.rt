@@ -5,7 +5,7 @@ use trie_node::Node;
 
 /// A single tuple, or the node or the map that the tables keep for two or more. `There` is the one tuple of no key.
 #[derive(Clone, Copy)]
-pub enum Place<'a> {
+pub enum Location<'a> {
     Triple(Trip),
     Triples(&'a Node),
     Pair(Pair),

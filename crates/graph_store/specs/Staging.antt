@@ -9,6 +9,7 @@ use Rattle.hypertrie_model.specs.Changes.{IsChange}
 use Rattle.rdf_model.specs.Terms.{Term, Triple}
 use Rattle.rdf_model.specs.Graph.{Graph}
 use Rattle.trie_depth.specs.declared.id.Id.{Id}
+use Rattle.trie_depth.specs.declared.id.Trip.{Trip}
 use Rattle.graph_image.specs.Images.{graph_of, terms_of, AreKnown, HasExactly, IsUsed, is_among, without}
 use Rattle.ntriples_model.specs.Proper.{AreProper}
 use Rattle.graph_store.specs.StoreState.{StoreState, triples_of, graph, most_triples}
@@ -47,6 +48,11 @@ is_held s b triple = set.contains (graph s) triple || set.contains (staged_graph
 abbrev pub AreDistinct : List ℕ → Type 0
 AreDistinct [] = Unit {0}
 AreDistinct (id ∷ ids) = (is_among ids id ≡ false) × AreDistinct ids
+
+-- the Ids of all triples, as they stand there
+abbrev pub ids_of_all : List Trip → List Id
+ids_of_all [] = []
+ids_of_all (t ∷ ts) = t.0 ∷ t.1 ∷ t.2 ∷ ids_of_all ts
 
 -- each Id that a tuple of the set has is in the list
 abbrev pub HasUsed : List ℕ → IdSet → Type 0

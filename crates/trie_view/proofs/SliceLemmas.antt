@@ -26,8 +26,8 @@ use Rattle.trie_context.specs.Rows.{row_of, set_of}
 use Rattle.trie_context.specs.EdgeLaws.{filled_there}
 use Rattle.trie_view.specs.declared.location.Location.{Location}
 use Rattle.trie_view.specs.declared.location.Location.TheVariants.{Triple, Triples, Pair as OnePair, Pairs, Key, Keys, There}
-use Rattle.trie_view.specs.declared.place.KeysAt.{KeysAt}
-use Rattle.trie_view.specs.declared.place.KeysAt.TheVariants.{One, Of}
+use Rattle.trie_view.specs.declared.location.KeysAt.{KeysAt}
+use Rattle.trie_view.specs.declared.location.KeysAt.TheVariants.{One, Of}
 use Rattle.trie_view.specs.Places.{place_depth, place_set, IsSub, IsPlaceOf, IsPairsOf, HasKeysAt, AreKeysAt, edge_at}
 use Rattle.trie_view.specs.EdgesAt.{keys_at_prop, single_keys, pairs_edge, triples_keys, pairs_keys, map_keys, triples_full, full_map}
 use Rattle.trie_view.specs.PlaceLaws.{place_prop, triple_slice, triple_other, pair_slice, pair_other, key_slice, key_other, triples_none, triples_no_key, triples_row, pairs_none, pairs_row, triples_slice, pairs_slice, pairs_key, keys_full, keys_slice, keys_other}

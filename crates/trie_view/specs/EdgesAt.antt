@@ -29,8 +29,8 @@ use Rattle.trie_node.specs.Sets.{edge_set, set_over, map_at}
 use Rattle.trie_node.specs.Forms.{IsPairEdge, IsTripleEdge, StandsFor}
 use Rattle.trie_node.specs.FormLaws.{filled_pair, filled_triple}
 use Rattle.trie_context.specs.Kept.{IsNode}
-use Rattle.trie_view.specs.declared.place.KeysAt.{KeysAt}
-use Rattle.trie_view.specs.declared.place.KeysAt.TheVariants.{One, Of}
+use Rattle.trie_view.specs.declared.location.KeysAt.{KeysAt}
+use Rattle.trie_view.specs.declared.location.KeysAt.TheVariants.{One, Of}
 use Rattle.trie_view.specs.Places.{IsFull, IsThereIf, HasKeysAt, AreKeysAt, found, edge_at}
 
 pub sets_prop : (H K : IdSet) → IsProp (H ≡ K)

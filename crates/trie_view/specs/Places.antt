@@ -20,8 +20,8 @@ use Rattle.trie_context.specs.Rows.{row_of, set_of}
 use Rattle.trie_context.specs.Kept.{IsNode, AreKept}
 use Rattle.trie_view.specs.declared.location.Location.{Location}
 use Rattle.trie_view.specs.declared.location.Location.TheVariants.{Triple, Triples, Pair, Pairs, Key, Keys, There}
-use Rattle.trie_view.specs.declared.place.KeysAt.{KeysAt}
-use Rattle.trie_view.specs.declared.place.KeysAt.TheVariants.{One, Of}
+use Rattle.trie_view.specs.declared.location.KeysAt.{KeysAt}
+use Rattle.trie_view.specs.declared.location.KeysAt.TheVariants.{One, Of}
 
 -- how many keys each tuple has
 abbrev pub place_depth : Location → ℕ

@@ -65,6 +65,23 @@ ends : (form : Form) (b : ℕ) → is_byte2 (close_of form) 92 b ≡ true → fi
 ends Iri b h = iri_end b h
 ends Quoted b h = string_end b h
 
+-- a run that ends in a front, and one that goes on behind it
+pub ends_in_front : (fits : ℕ → Bool) (xs ys : List ℕ) → prefix_len fits xs < length xs → prefix_len fits (xs ++ ys) ≡ prefix_len fits xs
+ends_in_front fits [] ys less = absurd (omega arith)
+ends_in_front fits (x ∷ xs) ys less =
+    elim (fits x) as (λ e. cond {A = ℕ} e (1 + prefix_len fits xs) 0 < suc (length xs) → cond {A = ℕ} e (1 + prefix_len fits (xs ++ ys)) 0 ≡ cond {A = ℕ} e (1 + prefix_len fits xs) 0) [
+      | true ↦ λ h. ap (λ n. 1 + n) (ends_in_front fits xs ys (omega (arith, h)))
+      | false ↦ λ h. refl
+    ] less
+
+pub goes_on_behind : (fits : ℕ → Bool) (xs ys : List ℕ) → length xs ≤ prefix_len fits xs → prefix_len fits xs + prefix_len fits ys ≡ prefix_len fits (xs ++ ys)
+goes_on_behind fits [] ys all = omega arith
+goes_on_behind fits (x ∷ xs) ys all =
+    elim (fits x) as (λ e. suc (length xs) ≤ cond {A = ℕ} e (1 + prefix_len fits xs) 0 → cond {A = ℕ} e (1 + prefix_len fits xs) 0 + prefix_len fits ys ≡ cond {A = ℕ} e (1 + prefix_len fits (xs ++ ys)) 0) [
+      | true ↦ λ h. let more = goes_on_behind fits xs ys (omega (arith, h)) in omega (arith, more)
+      | false ↦ λ h. absurd (omega (arith, h))
+    ] all
+
 -- where all before the first such byte stand for themselves, they are the run
 pub run_to_end : (form : Form) (bytes : List ℕ) (r : Option ℕ) (n : ℕ) → IsFirstByte (is_byte2 (close_of form) 92) bytes r → n ≡ unwrap_or r (length bytes)
     → list_all (fits_of form) (take n bytes) ≡ true → n ≡ prefix_len (fits_of form) bytes

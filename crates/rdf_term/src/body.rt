@@ -67,6 +67,9 @@ impl Form {
     }
 }
 
+/// So many bytes are tested one after another before all others are tested at once.
+const SHORT: usize = 24;
+
 /// What stands where nothing stands for itself.
 enum Stop {
     Closed,
@@ -89,7 +92,7 @@ fn run_len_by_bytes(form: Form, bytes: &[u8]) -> usize
 
 /// The same, with a test of all at once where the first that doesn't is a backslash or ends the body, as in each body
 /// that is read.
-fn run_len(form: Form, bytes: &[u8]) -> usize
+fn long_run_len(form: Form, bytes: &[u8]) -> usize
     ensures { result ≡ prefix_len (fits_of form) bytes.now }
 {
     let end = memchr2(form.close(), b'\\', bytes).unwrap_or(bytes.len());
@@ -97,6 +100,18 @@ fn run_len(form: Form, bytes: &[u8]) -> usize
         return end;
     }
     run_len_by_bytes(form, bytes)
+}
+
+/// The same. The first bytes are tested one after another, since a short run costs no more.
+fn run_len(form: Form, bytes: &[u8]) -> usize
+    ensures { result ≡ prefix_len (fits_of form) bytes.now }
+{
+    let (front, rest) = bytes.split_at(bytes.len().min(SHORT));
+    let len = run_len_by_bytes(form, front);
+    if len < front.len() {
+        return len;
+    }
+    len + long_run_len(form, rest)
 }
 
 /// The run at the front; none where it isn't UTF-8.

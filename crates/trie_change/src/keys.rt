@@ -123,43 +123,6 @@ fn lone_key(change: Change, old: Option<Edge>, run: &[Pair]) -> Option<Edge>
     }
 }
 
-/// The same for any keys.
-fn change_many_keys<M: Mix, W: Ledger>(
-    alloc: Global,
-    context: &mut Context<M>,
-    change: Change,
-    old: Option<Edge>,
-    run: &[Pair],
-    interns: &mut Steps<W>,
-) -> Result<Option<Edge>, Memory>
-    requires run { MayChangeEdge change context.old 1 pair_rest old run.now }
-    requires room { LeavesRoom context.old 1 }
-    ensures stands { IfOk result (StandsAt context.new 1 (keys_after change context.old old run.now)) }
-    ensures held { IfOk result (λ e. IsInHand M.mixed context.old context.new (edge_hold 1 e) 1) }
-    ensures kept { OnErr result (context.new ≡ context.old) }
-    ensures ticks { interns.new ≤ interns.old + 1 }
-{
-    context.is_kept();
-    let (before, hash) = key_figures(context, old);
-    if takes_all(change, before, run.len() as u64) {
-        return Ok(None);
-    }
-    let keys = changed_keys(alloc, context, change, old, run)?;
-    let size = keys.len();
-    if size < 2 {
-        return Ok(first_edge(&keys));
-    }
-    let node = Node::Full {
-        size,
-        hash: toggled_keys::<M>(hash, run),
-        first: keys,
-        second: EdgeMap::new(alloc),
-        third: EdgeMap::new(alloc),
-    };
-    let held = context.intern::<L1, W>(node, interns)?;
-    Ok(Some(held.into_edge()))
-}
-
 /// The edge for the keys that the old one stands for, changed by those behind the first of the run. The new edge
 /// is in hand.
 pub fn change_keys<M: Mix, W: Ledger>(
@@ -178,8 +141,25 @@ pub fn change_keys<M: Mix, W: Ledger>(
     ensures ticks { interns.new ≤ interns.old + 1 }
 {
     context.is_kept();
-    match lone_key(change, old, run) {
-        Some(edge) => Ok(Some(edge)),
-        None => change_many_keys(alloc, context, change, old, run, interns),
+    if let Some(edge) = lone_key(change, old, run) {
+        return Ok(Some(edge));
     }
+    let (before, hash) = key_figures(context, old);
+    if takes_all(change, before, run.len() as u64) {
+        return Ok(None);
+    }
+    let keys = changed_keys(alloc, context, change, old, run)?;
+    let size = keys.len();
+    if size < 2 {
+        return Ok(first_edge(&keys));
+    }
+    let node = Node::Full {
+        size,
+        hash: toggled_keys::<M>(hash, run),
+        first: keys,
+        second: EdgeMap::new(alloc),
+        third: EdgeMap::new(alloc),
+    };
+    let held = context.intern::<L1, W>(node, interns)?;
+    Ok(Some(held.into_edge()))
 }

@@ -144,46 +144,6 @@ fn put_pair<M: Mix, W: Ledger>(
     Ok(Some(held.into_edge()))
 }
 
-/// The same for any pairs.
-fn change_many_pairs<M: Mix, W: Ledger, V: Ledger>(
-    alloc: Global,
-    context: &mut Context<M>,
-    change: Change,
-    old: Option<Edge>,
-    run: &[Trip],
-    interns: &mut Steps<W>,
-    retains: &mut Steps<V>,
-) -> Result<Option<Edge>, Memory>
-    requires run { MayChangeEdge change context.old 2 trip_rest old run.now }
-    requires some { 1 ≤ length run.now }
-    requires room { LeavesRoom context.old (run_room run.now) }
-    requires size { set.len (pairs_after change context.old old run.now) < 2 ^ 64 }
-    ensures stands { IfOk result (StandsAt context.new 2 (pairs_after change context.old old run.now)) }
-    ensures held { IfOk result (λ e. IsInHand M.mixed context.old context.new (edge_hold 2 e) (run_room run.now)) }
-    ensures kept { OnErr result (context.new ≡ context.old) }
-    ensures ticks { interns.new ≤ interns.old + 3 * length run.now }
-    ensures retained { retains.new ≤ retains.old + 2 * (set.len (set_at context.old 2 old) + length run.now) }
-{
-    context.is_kept();
-    let (size, hash) = pair_figures(context, old);
-    let size = changed_size(change, size, run.len() as u64);
-    if size == 0 {
-        return Ok(None);
-    }
-    let hash = toggled_pairs::<M>(hash, run);
-    let first = change_pair_position(alloc, context, change, old, run, 0, interns, retains)?;
-    let second = match change_pair_position(alloc, context, change, old, run, 1, interns, retains) {
-        Ok(second) => second,
-        Err(memory) => {
-            context.release_map::<L2>(&first);
-            return Err(memory);
-        }
-    };
-    let node = pair_node::<M>(alloc, size, hash, first, second);
-    let held = context.intern::<L2, W>(node, interns)?;
-    Ok(Some(held.into_edge()))
-}
-
 /// The edge for the pairs that the old one stands for, changed by those behind the first key of the run. The new edge
 /// is in hand.
 pub fn change_pairs<M: Mix, W: Ledger, V: Ledger>(
@@ -205,8 +165,25 @@ pub fn change_pairs<M: Mix, W: Ledger, V: Ledger>(
     ensures ticks { interns.new ≤ interns.old + 3 * length run.now }
     ensures retained { retains.new ≤ retains.old + 2 * (set.len (set_at context.old 2 old) + length run.now) }
 {
-    match lone_pair(change, old, run) {
-        Some(node) => put_pair(context, node, interns),
-        None => change_many_pairs(alloc, context, change, old, run, interns, retains),
+    context.is_kept();
+    if let Some(node) = lone_pair(change, old, run) {
+        return put_pair(context, node, interns);
     }
+    let (size, hash) = pair_figures(context, old);
+    let size = changed_size(change, size, run.len() as u64);
+    if size == 0 {
+        return Ok(None);
+    }
+    let hash = toggled_pairs::<M>(hash, run);
+    let first = change_pair_position(alloc, context, change, old, run, 0, interns, retains)?;
+    let second = match change_pair_position(alloc, context, change, old, run, 1, interns, retains) {
+        Ok(second) => second,
+        Err(memory) => {
+            context.release_map::<L2>(&first);
+            return Err(memory);
+        }
+    };
+    let node = pair_node::<M>(alloc, size, hash, first, second);
+    let held = context.intern::<L2, W>(node, interns)?;
+    Ok(Some(held.into_edge()))
 }

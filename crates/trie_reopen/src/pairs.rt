@@ -1,28 +1,25 @@
 //! The row of a set of pairs: taken out with its edges in hand, stored again as another, or replaced by a copy.
-ghost use Rattle.std.specs.Prelude.{◌≡◌, ◌+◌, ◌*◌, ◌≤◌, ◌<◌, ◌^◌, ℕ, Some, IfOk, OnErr, length};
+ghost use Rattle.std.specs.Prelude.{◌≡◌, ◌+◌, ◌≤◌, ◌<◌, ℕ, Some, IfOk, OnErr};
 ghost use Rattle.std.specs.FinSet as set;
 ghost use Rattle.change_log.specs.Log.{edge_hold, Grows};
 ghost use Rattle.edge_map.specs.declared.edge.Edge.{Edge};
 ghost use Rattle.trie_node.specs.declared.node.Node.{Node};
 ghost use Rattle.trie_node.specs.Sets.{edges_of};
-ghost use Rattle.trie_context.specs.FitEdges.{set_at, StandsAt};
+ghost use Rattle.trie_context.specs.FitEdges.{StandsAt};
 ghost use Rattle.trie_context.specs.Holds.{count_of, holds_of, nothing};
 ghost use Rattle.trie_context.specs.Kept.{IsNode};
 ghost use Rattle.trie_context.specs.Rows.{row_of, set_of, node_set};
-ghost use Rattle.trie_change.specs.After.{pairs_after, run_room};
-ghost use Rattle.trie_change.specs.Batches.{trip_rest};
-ghost use Rattle.trie_change.specs.Premises.{MayChangeEdge};
 ghost use Rattle.trie_change.specs.Rooms.{LeavesRoom, FitsSome, AreSlicesAt};
 ghost use Rattle.trie_reopen.specs.Shared.{HoldsRiseBy};
-ghost use Rattle.trie_reopen.specs.Named.{HavePairEdges, OpensPairs, ReplacesEdge, StoresPairs};
+ghost use Rattle.trie_reopen.specs.Named.{HavePairEdges, OpensPairs, StoresPairs};
 
 use change_log::{Log, RowStep, Step};
 use edge_map::{Edge, EdgeMap};
 use std::alloc::Global;
 use std::sync::ledger::Ledger;
-use trie_change::{Change, change_pairs, pair_edges};
+use trie_change::pair_edges;
 use trie_context::{Context, Held, Kept};
-use trie_depth::{L2, Memory, Mix, Steps, Trip};
+use trie_depth::{L2, Memory, Mix, Steps};
 use trie_node::Node;
 
 /// The edges at both positions of the pairs of a row.
@@ -89,33 +86,4 @@ pub fn store_pairs<M: Mix, W: Ledger>(
         }
         Err((_, memory)) => Err(memory),
     }
-}
-
-/// The edge for pairs that others share, or that are new, changed by copying. The hold of the old edge is kept in the log.
-pub fn replace_pairs<M: Mix, W: Ledger, V: Ledger>(
-    alloc: Global,
-    context: &mut Context<M>,
-    change: Change,
-    old: Option<Edge>,
-    run: &[Trip],
-    log: &mut Log,
-    interns: &mut Steps<W>,
-    retains: &mut Steps<V>,
-) -> Result<Option<Edge>, Memory>
-    requires run { MayChangeEdge change context.old 2 trip_rest old run.now }
-    requires some { 1 ≤ length run.now }
-    requires room { LeavesRoom context.old (run_room run.now) }
-    requires size { set.len (pairs_after change context.old old run.now) < 2 ^ 64 }
-    ensures stands { IfOk result (StandsAt context.new 2 (pairs_after change context.old old run.now)) }
-    ensures logged { IfOk result (ReplacesEdge M.mixed context.old context.new log.old log.new 2 old (run_room run.now)) }
-    ensures grew { OnErr result (Grows M.mixed context.old context.new log.old.steps log.new.steps) }
-    ensures ticks { interns.new ≤ interns.old + 3 * length run.now }
-    ensures risen { IfOk result (λ e. HoldsRiseBy context.old context.new (edge_hold 2 e)) }
-    ensures retained { retains.new ≤ retains.old + 2 * (set.len (set_at context.old 2 old) + length run.now) }
-{
-    context.is_kept();
-    log.reserve()?;
-    let new = change_pairs(alloc, context, change, old, run, interns, retains)?;
-    log.push(Step::Pairs(RowStep::Replaced(old, new)));
-    Ok(new)
 }

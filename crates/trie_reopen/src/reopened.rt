@@ -14,12 +14,14 @@ ghost use Rattle.trie_reopen.specs.Shared.{HoldsRiseBy};
 ghost use Rattle.trie_reopen.specs.Named.{LeavesRow, ReplacesEdge, ReplacesRow, RunRetains};
 
 use crate::pair_map::replace_pair_map;
-use crate::pairs::{open_pairs, pair_maps, replace_pairs, store_pairs};
+use crate::pairs::{open_pairs, pair_maps, store_pairs};
 use change_log::{Log, RowStep, Step};
 use edge_map::Edge;
 use std::alloc::Global;
 use std::sync::ledger::Ledger;
-use trie_change::{Change, changed_size, pair_figures, pair_node, pairs_by_key, toggled_pairs};
+use trie_change::{
+    Change, change_pairs, changed_size, pair_figures, pair_node, pairs_by_key, toggled_pairs,
+};
 use trie_context::Context;
 use trie_depth::{Memory, Mix, Steps, Trip};
 
@@ -94,7 +96,7 @@ fn own_row<M: Mix>(context: &Context<M>, edge: Option<Edge>) -> Option<usize>
 }
 
 /// The edge for the pairs of an edge, changed by those behind the first key of the run: a row that nothing else leads to is
-/// changed in place, and any other by copying. The old edge was in hand, and the new one is.
+/// changed in place, and any other by copying, with its hold kept in the log. The old edge was in hand, and the new one is.
 pub fn change_held_pairs<M: Mix, W: Ledger, V: Ledger>(
     alloc: Global,
     context: &mut Context<M>,
@@ -120,6 +122,11 @@ pub fn change_held_pairs<M: Mix, W: Ledger, V: Ledger>(
     context.is_kept();
     match own_row(context, old) {
         Some(row) => reopen_pairs(alloc, context, change, row, run, log, interns),
-        None => replace_pairs(alloc, context, change, old, run, log, interns, retains),
+        None => {
+            log.reserve()?;
+            let new = change_pairs(alloc, context, change, old, run, interns, retains)?;
+            log.push(Step::Pairs(RowStep::Replaced(old, new)));
+            Ok(new)
+        }
     }
 }

@@ -11,7 +11,7 @@ use Rattle.trie_change.specs.FigureLaws.{size_is}
 use Rattle.trie_change.specs.BatchLaws.{order_once}
 use Rattle.trie_context.specs.MoveLaws.{at_most, at_none, one_at_most, counts_as_before, gained_none, rows_as_before}
 use Rattle.trie_change.proofs.KeyNodeLemmas.{changed_set, made_map, made_parts, few_stand, few_moved, keys_formed, keys_held, row_edge, row_moved, row_given}
-use Rattle.trie_change.proofs.keys.change_many_keys.Goals as goal
+use Rattle.trie_change.proofs.keys.change_keys.Goals as goal
 
 on_err : {A B : Type 0} (r : Result A B) (P : Type 0) → P → OnErr r P
 on_err (Ok x) P p = tt

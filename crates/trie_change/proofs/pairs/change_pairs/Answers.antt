@@ -15,7 +15,7 @@ use Rattle.trie_change.specs.HandLaws.{fits_stay, set_at_stays, hand_held, given
 use Rattle.trie_context.specs.MoveLaws.{at_most, at_none, one_at_most, counts_as_before, gained_none, rows_as_before, rows_stay_on}
 use Rattle.trie_change.specs.PairLaws.{on_err}
 use Rattle.trie_change.proofs.PairChanges.{both, changed_deep, pair_parts, node_held, node_given, edge_stands, edge_moved}
-use Rattle.trie_change.proofs.pairs.change_many_pairs.Goals as goal
+use Rattle.trie_change.proofs.pairs.change_pairs.Goals as goal
 
 pub changed_size-size-requires : goal.changed_size-size-requires
 changed_size-size-requires g c =

@@ -8,9 +8,6 @@ use Rattle.edge_map.proofs.rebuild.changed_list.Goals as goal
 use Rattle.edge_map.proofs.rebuild.changed_list.Goals.{In_ok-chunks}
 use Rattle.edge_map.proofs.rebuild.changed_list.Given.{Over}
 
-pub merged_few-requires-clause-rising : goal.merged_few-requires-clause-rising
-merged_few-requires-clause-rising g c = subst (λ cs. KeysRise (flat cs)) (sym c.in-Some.ensures.chunks) c.requires.map.rising
-
 pub list_of-requires-clause-rising : goal.list_of-requires-clause-rising
 list_of-requires-clause-rising g c =
     let all = c.deref.ensures.value ∙ c.in_ok-entries.ensures ∙ ap (λ cs. merged (flat cs) c.args.changes.now) c.in-Some.ensures.chunks in

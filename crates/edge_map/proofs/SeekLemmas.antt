@@ -1,6 +1,6 @@
 -- The first entry whose key isn't below another, among entries that are gone over one by one.
-use Rattle.std.specs.Prelude.{◌≡◌, ℕ, ◌+◌, ◌<◌, ◌≤◌, cond, List, [], ◌∷◌, length, map, Option, None, Some, refl}
-use Rattle.std.proofs.Common.{sym, ◌∙◌, ap, arith, drop, get_or}
+use Rattle.std.specs.Prelude.{◌≡◌, ℕ, ◌+◌, ◌<◌, ◌≤◌, cond, List, length, map, None, Some}
+use Rattle.std.proofs.Common.{sym, ◌∙◌, ap, drop, get_or}
 use Rattle.std.proofs.lemmas.List.{drop_more, drop_all}
 use Rattle.trie_depth.specs.declared.id.Id.{Id}
 use Rattle.edge_map.specs.declared.edge.Edge.{Edge}

@@ -16,6 +16,9 @@ pub type OwnKeys = ArrayVec<u32, 8>;
 /// Keys, each with the number of its edge.
 pub type Pairs = ArrayVec<(u32, u32), 4>;
 
+/// More of them.
+pub type MorePairs = ArrayVec<(u32, u32), 8>;
+
 /// The key, if it is its own edge.
 fn own_number(key: Id, edge: Edge) -> Option<u32>
     ensures { IfSome result (λ number. own_entry number ≡ (key, edge)) }
@@ -58,11 +61,11 @@ pub fn own_keys(entries: &[(Id, Edge)]) -> Option<OwnKeys>
     Some(keys)
 }
 
-/// The keys with the keys that are their edges, if they are at most four and each edge is a key.
-pub fn key_pairs(entries: &[(Id, Edge)]) -> Option<Pairs>
+/// The keys with the keys that are their edges, if there is room for them and each edge is a key.
+pub fn key_pairs<const N: usize>(entries: &[(Id, Edge)]) -> Option<ArrayVec<(u32, u32), N>>
     ensures { IfSome result (λ pairs. key_entries pairs.items ≡ entries.now) }
 {
-    let mut pairs = Pairs::new();
+    let mut pairs = ArrayVec::new();
     for (key, edge) in entries {
         let numbers = key_numbers(*key, *edge)?;
         pairs.try_push(numbers).ok()?;

@@ -1,4 +1,4 @@
-use Rattle.std.proofs.Common.{arith, ◌∙◌}
+use Rattle.std.proofs.Common.{arith}
 use Rattle.edge_map.proofs.ChunkLemmas.{seek_some, seek_none}
 use Rattle.edge_map.proofs.packed.Packed.seek.Goals as goal
 

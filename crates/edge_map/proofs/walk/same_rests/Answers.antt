@@ -1,7 +1,7 @@
 use Rattle.std.proofs.Common.{◌∙◌, sym}
 use Rattle.std.proofs.lemmas.Bool.{true≢false}
 use Rattle.edge_map.proofs.SameLemmas.{turned_same, parted}
-use Rattle.edge_map.proofs.walk.same_entries.Goals as goal
+use Rattle.edge_map.proofs.walk.same_rests.Goals as goal
 
 pub returns-then-not-same : goal.returns-then-not-same
 returns-then-not-same c = (

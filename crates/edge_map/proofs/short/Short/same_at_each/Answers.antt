@@ -1,7 +1,7 @@
-use Rattle.std.proofs.Common.{◌≡◌, ◌∙◌, ap, sym, get_or, arith, refl}
+use Rattle.std.proofs.Common.{◌∙◌, ap, sym, get_or, arith, refl}
 use Rattle.std.proofs.lemmas.Bool.{true≢false}
 use Rattle.std.proofs.lemmas.List.{same_lists}
-use Rattle.edge_map.proofs.body.Body.same_at_each.Goals as goal
+use Rattle.edge_map.proofs.short.Short.same_at_each.Goals as goal
 
 pub returns-then-ne : goal.returns-then-ne
 returns-then-ne c =
